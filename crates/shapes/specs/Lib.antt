@@ -1,0 +1,5 @@
+pub mod Depths
+pub mod Links
+pub mod Mirrors
+pub mod Refusals
+pub mod Tree

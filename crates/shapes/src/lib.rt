@@ -1,0 +1,5 @@
+//! Shapes: sibling trees behind one interface.
+pub mod axis;
+pub mod links;
+pub mod refusal;
+pub mod shape;
