@@ -1,0 +1,2 @@
+pub mod DepthLines
+pub mod Fields

@@ -1,0 +1,3 @@
+//! Text that models are kept in: number fields and lines.
+pub mod depths;
+pub mod field;

@@ -1,0 +1,4 @@
+pub mod Admission
+pub mod Refusals
+pub mod Rows
+pub mod Table

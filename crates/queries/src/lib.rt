@@ -1,0 +1,5 @@
+//! Queries: blocks of mutual definitions, admitted or refused.
+pub mod block;
+pub mod refusal;
+pub mod rows;
+pub mod term;
