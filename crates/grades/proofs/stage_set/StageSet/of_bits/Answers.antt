@@ -1,0 +1,6 @@
+use mathlib.Core.Path.{refl, sym}
+use Rattle.grades.proofs.Stages.{same-bits}
+use Rattle.grades.proofs.stage_set.StageSet.of_bits.Needs as need
+
+pub returns : need.returns
+returns c = record { stages = refl; only = λ x e. same-bits _ x (sym e) }
