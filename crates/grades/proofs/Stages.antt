@@ -3,20 +3,19 @@ use mathlib.Core.Path.{_≡_, refl, sym, ap, ap₂, _∙_, subst}
 use mathlib.Core.Logic.{_⊎_, inl, inr}
 use mathlib.Core.Bool.{Bool, true, false, not, _&&_, _||_}
 use mathlib.Core.HLevel.{isProp→PathP}
-use Prim.Native.Nat.{ℕ, _+_, _-_, _^_, _<_}
+use Prim.Native.Nat.{ℕ, _+_, _-_, _^_, _<_, zero-le}
 use native.Mathlib.Bridge.{le-prop}
-use native.Mathlib.Nat.{zero-div}
 use native.Mathlib.Omega.{arith}
 use borrow.Author.Needs.{needs}
 use lib.Bits.{bitAnd, and-lt}
 use lib.Count.{ones-le}
-use lib.Dec.{T, eqb→eq, eqb-refl, lit≤}
+use lib.Dec.{T, eqb→eq, eqb-refl, lit<, lit≤}
 use Rattle.grades.specs.ByStage.{Included, Kept-by-stage, Equal-by-stage, Below-by-stage}
 use Rattle.grades.specs.Kind.{Below, Laws}
 use Rattle.grades.specs.StageSets.{bit, digit, stage-sets}
 use Rattle.grades.specs.YesNo.{yes-no}
 use Rattle.grades.specs.declared.stage_set.StageSet.{StageSet}
-use Rattle.grades.proofs.Digits.{digits-tell, digit-and, digit-or, digit-turned, ones-rise}
+use Rattle.grades.proofs.Digits.{digits-tell, digit-past, digit-and, digit-or, digit-turned, ones-rise}
 
 -- a set is its number
 pub same-bits : (x y : StageSet) → x .stages ≡ y .stages → x ≡ y
@@ -26,7 +25,7 @@ pub equal-by-stage : Equal-by-stage
 equal-by-stage x y same = same-bits x y (digits-tell 32 (x .stages) (y .stages) (x .fits) (y .fits) same)
 
 digit-none : (s : ℕ) → digit s 0 ≡ false
-digit-none s = rw zero-div
+digit-none s = digit-past 0 s 0 (lit< tt) zero-le
 
 pub kept-by-stage : Kept-by-stage
 kept-by-stage s h = record {
