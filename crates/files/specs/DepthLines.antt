@@ -39,3 +39,8 @@ pub record Bad-line (text : List ℕ) (line : ℕ) : Type 0 where
 abbrev pub Stops-at : List ℕ → TextFault → Type 0
 Stops-at text (Malformed line) = Bad-line text line
 Stops-at text NoMemory = Unit {0}
+
+-- the published number of a fault
+abbrev pub published : TextFault → ℕ
+published (Malformed line) = 12
+published NoMemory = 99

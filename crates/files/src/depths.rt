@@ -1,16 +1,12 @@
 //! Depth lists as text: one line for each node, `N` and its depth in five columns.
 ghost use mathlib.Core.Path.{_≡_};
-ghost use mathlib.Core.List.{[], _∷_, _++_, map};
-ghost use Prim.Native.Nat.{ℕ, _+_, _<_};
-ghost use lib.ListN.{length};
+ghost use Prim.Native.Nat.{ℕ};
 ghost use Rattle.std.specs.Of.Vec.{vec-items};
 ghost use Rattle.std.specs.Options.{Cases};
 ghost use Rattle.std.specs.Results.{Cases as ByOk};
-ghost use Rattle.files.specs.DepthLines.{Is-line, Reads-depths, Stops-at, capped};
+ghost use Rattle.files.specs.DepthLines.{Is-line, Reads-depths, Stops-at, capped, published};
 use crate::field::number_in;
-use std::alloc::AllocError;
 use std::alloc::Global;
-use std::alloc::Refused;
 
 /// A line's bytes: the letter, the columns and the end.
 const LINE: usize = 7;
@@ -22,6 +18,18 @@ pub enum TextFault {
     Malformed { line: usize },
     /// Want of memory: no fault of the text.
     NoMemory,
+}
+
+impl TextFault {
+    /// The published number.
+    pub fn number(self) -> u8
+        ensures { λ r. ⌜ r ≡ published self ⌝ }
+    {
+        match self {
+            TextFault::Malformed { .. } => 12,
+            TextFault::NoMemory => 99,
+        }
+    }
 }
 
 /// The depths that a text lists; one too great for 16 bits reads as the greatest, which no shape has.
