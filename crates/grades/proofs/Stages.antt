@@ -1,16 +1,16 @@
 -- Stage sets stage by stage, and their laws, each from that of yes and no at every stage.
-use mathlib.Core.Path.{_≡_, refl, sym, ap, ap₂, _∙_, subst}
-use mathlib.Core.Logic.{_⊎_, inl, inr}
-use mathlib.Core.Bool.{Bool, true, false, not, _&&_, _||_}
+use mathlib.Core.Path.{_≡_, refl, sym, ap, _∙_}
+use mathlib.Core.Logic.{inl, inr}
+use mathlib.Core.Bool.{Bool, false, not, _&&_}
 use mathlib.Core.HLevel.{isProp→PathP}
-use Prim.Native.Nat.{ℕ, _+_, _-_, _^_, _<_, zero-le}
+use Prim.Native.Nat.{ℕ, _-_, _^_, _<_, zero-le}
 use native.Mathlib.Bridge.{le-prop}
 use native.Mathlib.Omega.{arith}
 use borrow.Author.Needs.{needs}
-use lib.Bits.{bitAnd, and-lt}
+use lib.Bits.{bitAnd}
 use lib.Count.{ones-le}
 use lib.Dec.{T, eqb→eq, eqb-refl, lit<, lit≤}
-use Rattle.grades.specs.ByStage.{Included, Kept-by-stage, Equal-by-stage, Below-by-stage}
+use Rattle.grades.specs.ByStage.{Kept-by-stage, Equal-by-stage, Below-by-stage}
 use Rattle.grades.specs.Kind.{Below, Laws}
 use Rattle.grades.specs.StageSets.{bit, digit, stage-sets}
 use Rattle.grades.specs.YesNo.{yes-no}
@@ -68,8 +68,8 @@ below-by-stage x y = (
   λ h. from-stages x y (λ s l. implies (bit s x) (bit s y) (h s l)),
 )
 
-pub laws : Laws stage-sets
-laws = record {
+pub stage-set-laws : Laws stage-sets
+stage-set-laws = record {
   below-refl = λ x. from-stages x x (λ s _. yes-no-laws .below-refl (bit s x));
   below-trans = λ x y z f g. from-stages x z (λ s _. yes-no-laws .below-trans (bit s x) (bit s y) (bit s z) (at-stage x y f s) (at-stage y z g s));
   below-antisym = λ x y f g. equal-by-stage x y (λ s _. yes-no-laws .below-antisym _ _ (at-stage x y f s) (at-stage y x g s));

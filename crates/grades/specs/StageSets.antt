@@ -1,5 +1,4 @@
 -- The kind of the sets of signal stages, kept as numbers of 32 bits.
-use mathlib.Core.Path.{_≡_}
 use mathlib.Core.Bool.{Bool}
 use Prim.Native.Nat.{ℕ, _-_, _/_, _%_, _^_}
 use native.Mathlib.Nat.{lt-of-le-of-lt, sub-le}

@@ -30,9 +30,11 @@ pub trait Grade: Copy {
     fn turn(self) -> Self
         ensures { λ r. ⌜ r ≡ kind .turned self ⌝ };
 
+    /// The grade below all.
     fn lowest() -> Self
         ensures { λ r. ⌜ r ≡ kind .lowest ⌝ };
 
+    /// The grade above all.
     fn highest() -> Self
         ensures { λ r. ⌜ r ≡ kind .highest ⌝ };
 
