@@ -3,6 +3,9 @@ use mathlib.Core.Path.{_≡_}
 use Prim.Native.Nat.{ℕ, zero, suc}
 use Rattle.std.specs.declared.option.Option.{Option}
 use Rattle.std.specs.declared.option.Option.the-variants.{None, Some}
+use Rattle.shapes.specs.declared.mirrored.Mirrored.{Mirrored}
+use Rattle.shapes.specs.declared.shape.Shape.{Ghosts}
+use Rattle.shapes.specs.Shapes.{tree-of}
 use Rattle.shapes.specs.Tree.{Tree, Iff}
 
 -- from x some steps along the map lead to y
@@ -48,4 +51,14 @@ mirror t = record {
   next = t .previous;
   owner = λ z. last-owner t z (t .next z);
   previous = t .next;
+}
+
+-- what the mirrored shape means, by what the shape in it means
+abbrev pub mirrored : {S : Type 0} → Ghosts S → Ghosts (Mirrored S)
+mirrored g = record {
+  count = λ s. mirror (tree-of g (s .shape)) .count;
+  first = λ s. mirror (tree-of g (s .shape)) .first;
+  next = λ s. mirror (tree-of g (s .shape)) .next;
+  owner = λ s. mirror (tree-of g (s .shape)) .owner;
+  previous = λ s. mirror (tree-of g (s .shape)) .previous;
 }

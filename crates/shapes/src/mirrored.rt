@@ -1,7 +1,8 @@
 //! The mirrored shape: children from right to left.
 ghost use mathlib.Core.Path.{_≡_};
-ghost use Rattle.shapes.specs.Tree.{tree, along};
-ghost use Rattle.shapes.specs.Mirrors.{Mirror-of, mirror, walk-end};
+ghost use Rattle.shapes.specs.Mirrors.{Mirror-of, mirrored, walk-end};
+ghost use Rattle.shapes.specs.Shapes.{tree-of};
+ghost use Rattle.shapes.specs.Tree.{along, Same-tree};
 use crate::axis::Axis;
 use crate::shape::Shape;
 
@@ -13,7 +14,7 @@ pub struct Mirrored<S> {
 
 // Where an axis leads in the end: the last node on it, or the node itself.
 fn end_along<S: Shape>(shape: &S, axis: Axis, node: usize) -> usize
-    ensures { λ r. ⌜ r ≡ walk-end (along (tree (S·Shape .count (now (shape .entry))) (S·Shape .first (now (shape .entry))) (S·Shape .next (now (shape .entry))) (S·Shape .owner (now (shape .entry))) (S·Shape .previous (now (shape .entry)))) axis) (S·Shape .count (now (shape .entry))) node ⌝ }
+    ensures { λ r. ⌜ r ≡ walk-end (along (tree-of S·Shape (now (shape .entry))) axis) (S·Shape .count (now (shape .entry))) node ⌝ }
 {
     let mut end = node;
     while let Some(further) = shape.neighbour(axis, end) {
@@ -25,12 +26,13 @@ fn end_along<S: Shape>(shape: &S, axis: Axis, node: usize) -> usize
 impl<S: Shape> Mirrored<S> {
     /// The mirror of a shape.
     pub fn over(shape: S) -> Mirrored<S>
-        ensures { λ r. ⌜ r .shape ≡ shape ⌝ }
+        ensures inner { λ r. ⌜ r .shape ≡ shape ⌝ }
+        ensures mirrors { λ r. ⌜ Mirror-of (tree-of S·Shape shape) (tree-of (mirrored S·Shape) r) ⌝ }
     {
         Mirrored { shape }
     }
 
-    /// The shape that was mirrored.
+    /// The shape in the mirror, as it was given.
     pub fn into_inner(self) -> S
         ensures { λ r. ⌜ r ≡ self .shape ⌝ }
     {
@@ -38,16 +40,24 @@ impl<S: Shape> Mirrored<S> {
     }
 }
 
+/// Takes both mirrors off, since two of them show the tree as it is.
+pub fn unmirrored<S: Shape>(twice: Mirrored<Mirrored<S>>) -> S
+    ensures inner { λ r. ⌜ r ≡ twice .shape .shape ⌝ }
+    ensures same { λ r. ⌜ Same-tree (tree-of (mirrored (mirrored S·Shape)) twice) (tree-of S·Shape r) ⌝ }
+{
+    twice.into_inner().into_inner()
+}
+
 pub impl<S: Shape> Shape for Mirrored<S> as MirroredShapes {
-    ghost count = { λ s. S·Shape .count (s .shape) };
+    ghost count = { mirrored S·Shape .count };
 
-    ghost first = { λ s. mirror (tree (S·Shape .count (s .shape)) (S·Shape .first (s .shape)) (S·Shape .next (s .shape)) (S·Shape .owner (s .shape)) (S·Shape .previous (s .shape))) .first };
+    ghost first = { mirrored S·Shape .first };
 
-    ghost next = { λ s. S·Shape .previous (s .shape) };
+    ghost next = { mirrored S·Shape .next };
 
-    ghost owner = { λ s. mirror (tree (S·Shape .count (s .shape)) (S·Shape .first (s .shape)) (S·Shape .next (s .shape)) (S·Shape .owner (s .shape)) (S·Shape .previous (s .shape))) .owner };
+    ghost owner = { mirrored S·Shape .owner };
 
-    ghost previous = { λ s. S·Shape .next (s .shape) };
+    ghost previous = { mirrored S·Shape .previous };
 
     fn node_count(&self) -> usize {
         self.shape.node_count()
@@ -66,7 +76,8 @@ pub impl<S: Shape> Shape for Mirrored<S> as MirroredShapes {
 
     fn owner_of(&self, node: usize) -> Option<usize> {
         match self.shape.next_of(node) {
-            None => self.shape.owner_of(end_along(&self.shape, Axis::Previous, node)),
+            None => self.shape
+                .owner_of(end_along(&self.shape, Axis::Previous, node)),
             Some(_) => None,
         }
     }
