@@ -1,2 +1,3 @@
 pub mod Mirrors
 pub mod Trees
+pub mod Walks

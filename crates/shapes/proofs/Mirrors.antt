@@ -1,6 +1,6 @@
 -- The mirror of a lawful tree: it is a lawful tree, and its mirror is the first tree again.
 use mathlib.Core.Path.{_≡_, refl, sym, ap, subst, fun-ext, _∙_}
-use mathlib.Core.Logic.{_⊎_, inl, inr, ⊎-elim}
+use mathlib.Core.Logic.{inl, inr, ⊎-elim}
 use Prim.Native.Nat.{ℕ, zero, suc, _+_, _-_, _<_, _≤_}
 use native.Mathlib.Omega.{arith}
 use Rattle.std.specs.declared.option.Option.{Option}
@@ -10,7 +10,8 @@ use Rattle.shapes.specs.declared.axis.Axis.the-variants.{First, Next, Owner, P
 use Rattle.shapes.specs.Tree.{Tree, Laws, Iff, Same-tree, Present, Either-one, along, back}
 use Rattle.shapes.specs.Mirrors.{Leads, Last-child, Mirror-of, walk-end, last-from, last-owner, mirror}
 use Rattle.shapes.specs.Mirrors.Leads.{here, onward}
-use Rattle.shapes.proofs.Trees.{option-cases, not-both, absent, walk-leads, leads-back, leads-keeps, one-end, axis-ends, end-is, injective, starts-inside, child-first, sibling-later}
+use Rattle.shapes.proofs.Walks.{option-cases, not-both, absent, walk-leads, leads-back, leads-keeps, one-end}
+use Rattle.shapes.proofs.Trees.{axis-ends, end-is, starts-inside, child-first, sibling-later}
 
 -- options with the same answers
 same-answers : (o o′ : Option ℕ) → ((y : ℕ) → Iff (o ≡ Some y) (o′ ≡ Some y)) → o ≡ o′

@@ -1,5 +1,6 @@
 pub mod Depths
 pub mod Links
+pub mod Mirrored
 pub mod Mirrors
 pub mod Refusals
 pub mod Shapes

@@ -3,9 +3,6 @@ use mathlib.Core.Path.{_≡_}
 use Prim.Native.Nat.{ℕ, zero, suc}
 use Rattle.std.specs.declared.option.Option.{Option}
 use Rattle.std.specs.declared.option.Option.the-variants.{None, Some}
-use Rattle.shapes.specs.declared.mirrored.Mirrored.{Mirrored}
-use Rattle.shapes.specs.declared.shape.Shape.{Ghosts}
-use Rattle.shapes.specs.Shapes.{tree-of}
 use Rattle.shapes.specs.Tree.{Tree, Iff}
 
 -- from x some steps along the map lead to y
@@ -27,6 +24,8 @@ pub record Mirror-of (t m : Tree) : Type 0 where
   pub previous : (x : ℕ) → m .previous x ≡ t .next x
   pub first : (x z : ℕ) → Iff (m .first x ≡ Some z) (Last-child t x z)
   pub owner : (x z : ℕ) → Iff (m .owner z ≡ Some x) (Last-child t x z)
+
+-- A mirror by functions. Mirror-of says what it is; that these give one is proved.
 
 -- where at most k steps along the map lead
 abbrev pub walk-end : (ℕ → Option ℕ) → ℕ → ℕ → ℕ
@@ -51,14 +50,4 @@ mirror t = record {
   next = t .previous;
   owner = λ z. last-owner t z (t .next z);
   previous = t .next;
-}
-
--- what the mirrored shape means, by what the shape in it means
-abbrev pub mirrored : {S : Type 0} → Ghosts S → Ghosts (Mirrored S)
-mirrored g = record {
-  count = λ s. mirror (tree-of g (s .shape)) .count;
-  first = λ s. mirror (tree-of g (s .shape)) .first;
-  next = λ s. mirror (tree-of g (s .shape)) .next;
-  owner = λ s. mirror (tree-of g (s .shape)) .owner;
-  previous = λ s. mirror (tree-of g (s .shape)) .previous;
 }

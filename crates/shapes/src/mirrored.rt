@@ -1,6 +1,7 @@
 //! The mirrored shape: children from right to left.
 ghost use mathlib.Core.Path.{_≡_};
-ghost use Rattle.shapes.specs.Mirrors.{Mirror-of, mirrored, walk-end};
+ghost use Rattle.shapes.specs.Mirrored.{mirrored};
+ghost use Rattle.shapes.specs.Mirrors.{Mirror-of, walk-end};
 ghost use Rattle.shapes.specs.Shapes.{tree-of};
 ghost use Rattle.shapes.specs.Tree.{along, Same-tree};
 use crate::axis::Axis;

@@ -1,6 +1,7 @@
 use mathlib.Core.Path.{sym, _∙_}
 use Rattle.shapes.specs.Mirrors.Leads.{here}
-use Rattle.shapes.proofs.Trees.{leads-more, to-go-falls, end-is}
+use Rattle.shapes.proofs.Trees.{to-go-falls, end-is}
+use Rattle.shapes.proofs.Walks.{leads-more}
 use Rattle.shapes.proofs.mirrored.end_along.Needs as need
 
 pub loop-further-holds : need.loop-further-holds

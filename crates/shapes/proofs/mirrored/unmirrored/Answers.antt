@@ -1,5 +1,5 @@
 use mathlib.Core.Path.{_≡_, sym, ap, subst, _∙_}
-use Rattle.shapes.specs.Mirrors.{mirrored}
+use Rattle.shapes.specs.Mirrored.{mirrored}
 use Rattle.shapes.specs.Shapes.{tree-of}
 use Rattle.shapes.specs.Tree.{Same-tree}
 use Rattle.shapes.proofs.Mirrors.{mirror-twice}
