@@ -33,6 +33,13 @@ impl<S: Shape> Mirrored<S> {
         Mirrored { shape }
     }
 
+    /// The shape in the mirror.
+    pub fn inner(&self) -> &S
+        ensures { λ r. ⌜ now r ≡ now (self .entry) .shape ⌝ }
+    {
+        &self.shape
+    }
+
     /// The shape in the mirror, as it was given.
     pub fn into_inner(self) -> S
         ensures { λ r. ⌜ r ≡ self .shape ⌝ }
