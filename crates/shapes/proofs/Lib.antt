@@ -1,3 +1,4 @@
+pub mod DepthLaws
 pub mod Mirrors
 pub mod Trees
 pub mod Walks
