@@ -115,12 +115,15 @@ seek-previous ds l y (suc k) hy hk one le h =
             | inl c ↦ h j c b
             | inr c ↦ let s : j ≡ suc k = omega arith in omega (arith, ap (depth-at ds) s)
           ])
-      | inr same ↦ (suc k, record {
+      | inr same ↦ (
+        suc k,
+        record {
           later = hk;
           node = hy;
           level = omega arith;
           between = λ j a b. omega (arith, h j a b);
-        })
+        },
+      )
     ]
 
 pub previous-found : (ds : List ℕ) → Lawful-depths ds → (y : ℕ) → 0 < y → y < length ds → depth-at ds y ≤ depth-at ds (y - 1) → (p : ℕ) × Next-sibling ds p y

@@ -1,4 +1,5 @@
 pub mod DepthLaws
+pub mod DepthSteps
 pub mod Mirrors
 pub mod Trees
 pub mod Walks

@@ -1,3 +1,4 @@
+pub mod DepthTables
 pub mod Depths
 pub mod Links
 pub mod Mirrored

@@ -1,5 +1,6 @@
 //! Shapes: sibling trees behind one interface.
 pub mod axis;
+pub mod depth;
 pub mod links;
 pub mod mirrored;
 pub mod refusal;
