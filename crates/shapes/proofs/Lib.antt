@@ -1,5 +1,6 @@
 pub mod DepthLaws
 pub mod DepthSteps
+pub mod DepthTrees
 pub mod Mirrors
 pub mod Trees
 pub mod Walks

@@ -5,6 +5,8 @@ ghost use Rattle.shapes.specs.Tree.{Countable};
 ghost use Rattle.std.specs.Of.Vec.{vec-items};
 ghost use lib.ListN.{length};
 
+pub mod fill;
+pub mod neighbours;
 mod rule;
 mod siblings;
 

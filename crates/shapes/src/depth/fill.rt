@@ -1,0 +1,67 @@
+//! A depth shape is made and filled.
+ghost use Rattle.shapes.specs.DepthShapes.{Depths-filled, Depths-refused, Has-depths};
+ghost use Rattle.shapes.specs.Depths.{Lawful-depths};
+ghost use Rattle.shapes.specs.Tree.{Countable};
+ghost use Rattle.std.specs.Results.{Cases};
+ghost use Rattle.std.specs.Vec.{made};
+ghost use lib.ListN.{length};
+ghost use mathlib.Core.List.{[], _∷_};
+ghost use mathlib.Core.Path.{_≡_};
+ghost use Rattle.shapes.specs.declared.refusal.ShapeRefusal.the-variants.{NoMemory};
+use crate::depth::DepthShape;
+use crate::depth::rule::first_fault;
+use crate::depth::siblings::previous_siblings;
+use crate::depth::siblings::reversed;
+use crate::refusal::ShapeRefusal;
+use std::alloc::AllocError;
+use std::alloc::Global;
+
+const MOST_NODES: usize = 2048;
+
+impl DepthShape {
+    /// A single node.
+    pub fn new(heap: Global) -> Result<DepthShape, ShapeRefusal>
+        ensures { λ r. ⌜ Cases r (Has-depths (0 ∷ [])) (λ e. e ≡ NoMemory) ⌝ }
+    {
+        DepthShape::of_depths(heap, &[0])
+    }
+
+    /// Fills the shape from one depth per node, in document order.
+    pub fn fill(&mut self, heap: Global, depths: &[u16]) -> Result<(), ShapeRefusal>
+        ensures { λ r. ⌜ Depths-filled (now (depths .entry)) (now (self .entry)) (now (self .exit)) r ⌝ }
+    {
+        *self = DepthShape::of_depths(heap, depths)?;
+        Ok(())
+    }
+
+    /// The shape of these depths. Memory is asked for only once they are checked.
+    fn of_depths(heap: Global, depths: &[u16]) -> Result<DepthShape, ShapeRefusal>
+        ensures { λ r. ⌜ Cases r (Has-depths (now (depths .entry))) (Depths-refused (now (depths .entry))) ⌝ }
+    {
+        if depths.is_empty() || depths.len() > MOST_NODES {
+            return Err(ShapeRefusal::NodeCount);
+        }
+        if let Some(node) = first_fault(depths) {
+            return Err(ShapeRefusal::UnlawfulDepth { node });
+        }
+        match DepthShape::of_lawful(heap, depths) {
+            Ok(shape) => Ok(shape),
+            Err(_) => Err(ShapeRefusal::NoMemory),
+        }
+    }
+
+    fn of_lawful(heap: Global, depths: &[u16]) -> Result<DepthShape, AllocError>
+        requires countable { ⌜ Countable (length (now depths)) ⌝ }
+        requires lawful { ⌜ Lawful-depths (now depths) ⌝ }
+        ensures { λ r. ⌜ made r (Has-depths (now (depths .entry))) ⌝ }
+    {
+        let previouses = previous_siblings(heap, depths)?;
+        let nexts = reversed(heap, &previouses)?;
+        let depths = Vec::from_slice(heap, depths)?;
+        Ok(DepthShape {
+            depths,
+            nexts,
+            previouses,
+        })
+    }
+}
