@@ -65,3 +65,58 @@ impl DepthShape {
         })
     }
 }
+
+#[cfg(test)]
+mod tests {
+    use super::*;
+    use crate::axis::Axis;
+    use crate::depth::neighbours::DepthShapes;
+    use crate::refusal::ShapeRefusalDebug;
+    use crate::refusal::ShapeRefusalPartialEq;
+    use crate::shape::Shape;
+    use std::test::*;
+
+    // A junction with two approaches, of two lanes and of one.
+    #[test]
+    fn junction(rt: LibcRuntime) -> Result<(), Fail> {
+        let mut shape = DepthShape::new(rt.alloc())?;
+        shape.fill(rt.alloc(), &[0, 1, 2, 2, 1, 2])?;
+        check_eq(shape.node_count(), 6)?;
+        check_eq(shape.first_of(1), Some(2))?;
+        check_eq(shape.next_of(1), Some(4))?;
+        check_eq(shape.previous_of(3), Some(2))?;
+        check_eq(shape.owner_of(3), None)?;
+        check_eq(shape.neighbour(Axis::Owner, 5), Some(4))
+    }
+
+    #[test]
+    fn unlawful(rt: LibcRuntime) -> Result<(), Fail> {
+        let mut shape = DepthShape::new(rt.alloc())?;
+        shape.fill(rt.alloc(), &[0, 1, 1])?;
+        check_eq(
+            shape.fill(rt.alloc(), &[0, 2]),
+            Err(ShapeRefusal::UnlawfulDepth { node: 1 }),
+        )?;
+        check_eq(
+            shape.fill(rt.alloc(), &[0, 1, 0]),
+            Err(ShapeRefusal::UnlawfulDepth { node: 2 }),
+        )?;
+        check_eq(shape.fill(rt.alloc(), &[]), Err(ShapeRefusal::NodeCount))?;
+        check_eq(shape.next_of(1), Some(2))
+    }
+
+    #[test]
+    fn most_nodes(rt: LibcRuntime) -> Result<(), Fail> {
+        let mut depths = vec![in rt.alloc(); 1u16; 2048]?;
+        check(depths.len() == 2048)?;
+        depths[0] = 0;
+        let mut shape = DepthShape::new(rt.alloc())?;
+        shape.fill(rt.alloc(), &depths)?;
+        check_eq(shape.previous_of(2047), Some(2046))?;
+        depths.push(1)?;
+        check_eq(
+            shape.fill(rt.alloc(), &depths),
+            Err(ShapeRefusal::NodeCount),
+        )
+    }
+}
