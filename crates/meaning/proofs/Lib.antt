@@ -1,0 +1,14 @@
+pub mod Admitted
+pub mod Agreement
+pub mod Better
+pub mod Blocks
+pub mod Changes
+pub mod Monotone
+pub mod Reached
+pub mod Readings
+pub mod Rounds
+pub mod Selections
+pub mod Sets
+pub mod Stages
+pub mod Sums
+pub mod Transfer

@@ -1,0 +1,5 @@
+pub mod Formulas
+pub mod Readings
+pub mod Rounds
+pub mod Solutions
+pub mod Theorems

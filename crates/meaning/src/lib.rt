@@ -1,0 +1,2 @@
+//! What a query means.
+pub mod theorems;
