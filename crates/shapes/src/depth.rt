@@ -5,10 +5,12 @@ ghost use Rattle.shapes.specs.Tree.{Countable};
 ghost use Rattle.std.specs.Of.Vec.{vec-items};
 ghost use lib.ListN.{length};
 
-pub mod fill;
-pub mod neighbours;
+mod fill;
+mod neighbours;
 mod rule;
 mod siblings;
+
+pub use neighbours::DepthShapes;
 
 /// A sibling tree held as one depth per node, in document order.
 ///

@@ -70,7 +70,7 @@ impl DepthShape {
 mod tests {
     use super::*;
     use crate::axis::Axis;
-    use crate::depth::neighbours::DepthShapes;
+    use crate::depth::DepthShapes;
     use crate::refusal::ShapeRefusalDebug;
     use crate::refusal::ShapeRefusalPartialEq;
     use crate::shape::Shape;

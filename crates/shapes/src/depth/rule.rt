@@ -19,7 +19,7 @@ fn keeps_rule(depths: &[u16], node: usize) -> bool
 }
 
 /// The first node whose depth breaks the rule.
-pub fn first_fault(depths: &[u16]) -> Option<usize>
+pub(super) fn first_fault(depths: &[u16]) -> Option<usize>
     ensures { λ r. ⌜ Cases r (Lawful-depths (now (depths .entry))) (First-fault (now (depths .entry))) ⌝ }
 {
     for node in 0..depths.len() {

@@ -29,7 +29,10 @@ fn previous_sibling(depths: &[u16], latest: &[usize], node: usize) -> Option<usi
 }
 
 /// The sibling to the left of each node.
-pub fn previous_siblings(heap: Global, depths: &[u16]) -> Result<Vec<Option<usize>>, AllocError>
+pub(super) fn previous_siblings(
+    heap: Global,
+    depths: &[u16],
+) -> Result<Vec<Option<usize>>, AllocError>
     requires { ⌜ Lawful-depths (now depths) ⌝ }
     ensures { λ r. ⌜ made r (λ v. Tells (vec-items v) (λ y x. Next-sibling (now (depths .entry)) x y)) ⌝ }
 {
@@ -43,7 +46,10 @@ pub fn previous_siblings(heap: Global, depths: &[u16]) -> Result<Vec<Option<usiz
 }
 
 /// The table that leads back: it has `y` at `x` where the given one has `x` at `y`.
-pub fn reversed(heap: Global, table: &[Option<usize>]) -> Result<Vec<Option<usize>>, AllocError>
+pub(super) fn reversed(
+    heap: Global,
+    table: &[Option<usize>],
+) -> Result<Vec<Option<usize>>, AllocError>
     requires inside { ⌜ ((y x : ℕ) → getD (now table) y None ≡ Some x → x < length (now table)) ⌝ }
     requires once { ⌜ ((y z x : ℕ) → getD (now table) y None ≡ Some x → getD (now table) z None ≡ Some x → y ≡ z) ⌝ }
     ensures { λ r. ⌜ made r (λ v. Tells (vec-items v) (λ x y. getD (now (table .entry)) y None ≡ Some x)) ⌝ }
