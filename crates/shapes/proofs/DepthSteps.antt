@@ -33,8 +33,8 @@ depth-bound ds l (suc x) h =
     omega (arith, l (suc x) h .rises (omega arith), ap (depth-at ds) e, depth-bound ds l x (omega arith))
 
 -- the latest nodes once node x is noted
-pub latest-more : (ds : List ℕ) → Lawful-depths ds → (x d : ℕ) (table : List ℕ) → x < length ds → d ≡ depth-at ds x → d < length table → All-latest ds x table → All-latest ds (x + 1) (set table d x)
-latest-more ds l x e table hx is he h pos d le =
+latest-noted : (ds : List ℕ) → Lawful-depths ds → (x d : ℕ) (table : List ℕ) → x < length ds → d ≡ depth-at ds x → d < length table → All-latest ds x table → All-latest ds (x + 1) (set table d x)
+latest-noted ds l x e table hx is he h pos d le =
     let back : x + 1 - 1 ≡ x = omega arith in
     let top : d ≤ e = omega (arith, ap (depth-at ds) back) in
     elim (cases-eq d e) [
@@ -57,6 +57,9 @@ latest-more ds l x e table hx is he h pos d le =
             ];
           })
     ]
+
+pub latest-more : (ds : List ℕ) → Lawful-depths ds → (x d v : ℕ) (table : List ℕ) → x < length ds → d ≡ depth-at ds x → v ≡ x → d < length table → All-latest ds x table → All-latest ds (x + 1) (set table d v)
+latest-more ds l x d v table hx is noted hd h = subst (λ w. All-latest ds (x + 1) (set table d w)) (sym noted) (latest-noted ds l x d table hx is hd h)
 
 -- the latest node of its depth is the previous sibling of a node that is not deeper than the one before
 pub previous-latest : (ds : List ℕ) (x q : ℕ) → x < length ds → Latest ds x (depth-at ds x) q → (p : ℕ) → Iff (Some q ≡ Some p) (Next-sibling ds p x)

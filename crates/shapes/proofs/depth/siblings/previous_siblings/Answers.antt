@@ -1,4 +1,4 @@
-use mathlib.Core.Path.{sym, subst, refl, _∙_}
+use mathlib.Core.Path.{sym, subst, _∙_}
 use Prim.Native.Nat.{_+_}
 use native.Mathlib.Omega.{arith}
 use Rattle.shapes.specs.DepthTables.{All-latest}
@@ -29,7 +29,7 @@ pub loop-node-again : need.loop-node-again
 loop-node-again c = (
   c .loop-node .inv .0,
   omega (arith, c .in-Continue-push .ensures tt .len, c .loop-node .inv .1),
-  latest-more (c .args .depths .now) (c .pre) (c .loop-node .node) _ (c .loop-node .latest .items) (c .loop-node-test .taken) refl
+  latest-more (c .args .depths .now) (c .pre) (c .loop-node .node) _ _ (c .loop-node .latest .items) (c .loop-node-test .taken) (omega arith) (omega arith)
       (omega (arith, depth-bound (c .args .depths .now) (c .pre) (c .loop-node .node) (c .loop-node-test .taken), c .loop-node .inv .0, c .loop-node .latest .ok .0))
       (c .loop-node .inv .2),
   subst (λ v. Tells-below (c .loop-node .node + 1) v (λ y x. Next-sibling (c .args .depths .now) x y)) (sym (c .in-Continue-push .ensures tt .items))
