@@ -12,7 +12,7 @@ use Rattle.std.specs.declared.option.Option.the-variants.{None, Some}
 use Rattle.shapes.specs.Tree.{Iff}
 use Rattle.shapes.specs.Depths.{depth-at, Lawful-depths, Next-sibling}
 use Rattle.shapes.specs.DepthTables.{Latest, All-latest, Tells}
-use Rattle.shapes.proofs.DepthLaws.{previous-once, first-no-previous}
+use Rattle.shapes.proofs.DepthLaws.{previous-once}
 
 -- the table tells R of the rows below n
 abbrev pub Tells-below : ℕ → List (Option ℕ) → (ℕ → ℕ → Type 0) → Type 0
