@@ -1,6 +1,9 @@
+pub mod Addresses
 pub mod DepthLaws
 pub mod DepthSteps
 pub mod DepthTrees
+pub mod Letters
 pub mod Mirrors
+pub mod Spelling
 pub mod Trees
 pub mod Walks

@@ -1,3 +1,4 @@
+pub mod Addresses
 pub mod DepthShapes
 pub mod DepthTables
 pub mod Depths

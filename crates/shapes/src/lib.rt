@@ -1,4 +1,5 @@
 //! Shapes: sibling trees behind one interface.
+pub mod address;
 pub mod axis;
 pub mod depth;
 pub mod links;
