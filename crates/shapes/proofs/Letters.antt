@@ -6,7 +6,7 @@ use Prim.Native.Nat.{ℕ, zero, suc, _+_, _<_, _≤_}
 use native.Mathlib.Omega.{arith}
 use Rattle.std.specs.declared.option.Option.the-variants.{None, Some}
 use Rattle.std.specs.shelf.Lists.{All}
-use Rattle.shapes.specs.declared.axis.Axis.the-variants.{First, Next, Owner, Previous}
+use Rattle.shapes.specs.declared.axis.Axis.the-variants.{First, Next}
 use Rattle.shapes.specs.Tree.{Tree, Laws}
 use Rattle.shapes.specs.Addresses.{raised, letters}
 use Rattle.shapes.proofs.Trees.{starts-inside, way-in, tree-ind, level-below, child-first}
@@ -14,6 +14,10 @@ use Rattle.shapes.proofs.Walks.{not-both}
 
 pub no-letter : (v w : List ℕ) (n : ℕ) → v ≡ [] → v ≡ n ∷ w → ⊥
 no-letter v w n e f = let z : _≡_ {A = ℕ} 0 1 = cc in omega arith
+
+all-raised : (w : List ℕ) → All (λ n. 1 ≤ n) w → All (λ n. 1 ≤ n) (raised w)
+all-raised [] a = a
+all-raised (n ∷ w) a = (omega arith, a .1)
 
 -- one step of the letters
 module _ (t : Tree) where
@@ -54,8 +58,12 @@ module _ (t : Tree) (l : Laws t) where
   enough (suc k) x h le = ⊎-elim
       (λ e. rw e (root-letters (suc (suc k)) ∙ sym (root-letters (suc k))))
       (⊎-elim
-      (λ w. let i = enough k (w .0) (starts-inside t l First (w .0) x (w .1)) (omega (arith, l .level-first (w .0) x (w .1))) in first-letters (suc k) (w .0) x (w .1) ∙ ap (λ (u : List ℕ). 1 ∷ u) i ∙ sym (first-letters k (w .0) x (w .1)))
-      (λ w. let i = enough k (w .0) (starts-inside t l Next (w .0) x (w .1)) (omega (arith, l .level-next (w .0) x (w .1))) in next-letters (suc k) (w .0) x (w .1) ∙ ap raised i ∙ sym (next-letters k (w .0) x (w .1))))
+      (λ w.
+      let i = enough k (w .0) (starts-inside t l First (w .0) x (w .1)) (omega (arith, l .level-first (w .0) x (w .1))) in
+      first-letters (suc k) (w .0) x (w .1) ∙ ap (λ (u : List ℕ). 1 ∷ u) i ∙ sym (first-letters k (w .0) x (w .1)))
+      (λ w.
+      let i = enough k (w .0) (starts-inside t l Next (w .0) x (w .1)) (omega (arith, l .level-next (w .0) x (w .1))) in
+      next-letters (suc k) (w .0) x (w .1) ∙ ap raised i ∙ sym (next-letters k (w .0) x (w .1))))
       (way-in t l x h)
 
   within : (x : ℕ) → x < t .count → letters t (suc (t .count)) x ≡ letters t (t .count) x
@@ -112,10 +120,6 @@ module _ (t : Tree) (l : Laws t) (L : ℕ → List ℕ) (s : Lettered t L) where
       (λ w. child (w .0) (w .1) (s .first (w .0) y (w .1)))
       (λ w. let b = before-next (w .0) y (w .1) in sibling (w .0) (b .position) (L (b .above)) (w .1) (b .counted) (b .word) (after-next (w .0) y (w .1))))
       (way-in t l y h)
-
-  all-raised : (w : List ℕ) → All (λ n. 1 ≤ n) w → All (λ n. 1 ≤ n) (raised w)
-  all-raised [] a = a
-  all-raised (n ∷ w) a = (omega arith, a .1)
 
   pub all-counted : (x : ℕ) → x < t .count → All (λ n. 1 ≤ n) (L x)
   all-counted = tree-ind t l (λ x. All (λ n. 1 ≤ n) (L x))

@@ -24,7 +24,7 @@ pub record Addressed (t : Tree) (address : ℕ → List ℕ) : Type 0 where
   pub outside : (x : ℕ) → t .count ≤ x → address x ≡ []
   pub positive : (x : ℕ) → x < t .count → All (λ n. 1 ≤ n) (address x)
   pub distinct : (x y : ℕ) → x < t .count → y < t .count → address x ≡ address y → x ≡ y
-  -- with a word its node's parent has one, and the sibling to the left if there is a place
+  -- a word without its last letter, or with it lowered and still positive, is a node's word too
   pub shorter : (x : ℕ) (w : List ℕ) (n : ℕ) → x < t .count → address x ≡ w ++ n ∷ [] → Node-at t address w
   pub lower : (x : ℕ) (w : List ℕ) (n : ℕ) → x < t .count → 1 ≤ n → address x ≡ w ++ (n + 1) ∷ [] → Node-at t address (w ++ n ∷ [])
   -- the first child has the letter 1 more, and the right neighbour a last letter one greater

@@ -18,7 +18,7 @@ pub fn address<S: Shape>(heap: Global, shape: &S, node: usize) -> Result<Vec<usi
     ensures sibling_tree { λ _. ⌜ Sibling-tree (tree-of S·Shape (now (shape .entry))) ⌝ }
 {
     let mut word = Vec::new(heap);
-    let mut position = 1;
+    let mut position = 1usize;
     let mut here = node;
     loop {
         if let Some(left) = shape.previous_of(here) {
