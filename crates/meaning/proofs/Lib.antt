@@ -3,6 +3,7 @@ pub mod Agreement
 pub mod Better
 pub mod Blocks
 pub mod Changes
+pub mod Fitting
 pub mod Monotone
 pub mod Reached
 pub mod Readings
@@ -12,3 +13,5 @@ pub mod Sets
 pub mod Stages
 pub mod Sums
 pub mod Transfer
+pub mod Trees
+pub mod Worked

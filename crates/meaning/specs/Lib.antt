@@ -1,3 +1,4 @@
+pub mod Examples
 pub mod Formulas
 pub mod Readings
 pub mod Rounds

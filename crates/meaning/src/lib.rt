@@ -1,2 +1,3 @@
 //! What a query means.
+pub mod examples;
 pub mod theorems;
