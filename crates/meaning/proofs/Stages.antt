@@ -5,7 +5,7 @@ use Prim.Native.Nat.{ℕ, _<_}
 use Rattle.grades.specs.declared.stage_set.StageSet.{StageSet}
 use Rattle.grades.specs.StageSets.{bit, stage-sets}
 use Rattle.grades.specs.YesNo.{yes-no}
-use Rattle.grades.proofs.Stages.{laws, kept-by-stage, equal-by-stage}
+use Rattle.grades.proofs.Stages.{stage-set-laws, kept-by-stage, equal-by-stage}
 use Rattle.shapes.specs.Tree.{Tree, Laws as TreeLaws}
 use Rattle.queries.specs.Table.{Table, Admitted}
 use Rattle.meaning.specs.Solutions.{Grades, Blockwise}
@@ -18,7 +18,7 @@ use Rattle.meaning.proofs.Transfer.{blockwise-mapped}
 
 module _ (t : Tree) (q : Table) (nodes : TreeLaws t) (admitted : Admitted q) (marks : Grades StageSet) where
   sets : Lawful stage-sets t q
-  sets = record { kind = laws; tree = nodes; admitted = admitted }
+  sets = record { kind = stage-set-laws; tree = nodes; admitted = admitted }
 
   single : Lawful yes-no t q
   single = record { kind = yes-no-laws; tree = nodes; admitted = admitted }
