@@ -12,6 +12,7 @@ pub mod Selections
 pub mod Sets
 pub mod Stages
 pub mod Sums
+pub mod Tables
 pub mod Transfer
 pub mod Trees
 pub mod Worked

@@ -3,4 +3,5 @@ pub mod Formulas
 pub mod Readings
 pub mod Rounds
 pub mod Solutions
+pub mod Tables
 pub mod Theorems
