@@ -1,6 +1,4 @@
 -- Stage sets stage by stage.
-use mathlib.Core.Path.{_≡_}
-use mathlib.Core.Bool.{Bool}
 use Prim.Native.Nat.{ℕ, _<_}
 use Rattle.grades.specs.declared.stage_set.StageSet.{StageSet}
 use Rattle.grades.specs.StageSets.{bit, stage-sets}
@@ -10,7 +8,6 @@ use Rattle.shapes.specs.Tree.{Tree, Laws as TreeLaws}
 use Rattle.queries.specs.Table.{Table, Admitted}
 use Rattle.meaning.specs.Solutions.{Grades, Blockwise}
 use Rattle.meaning.specs.Theorems.{stage, Solved-by-stage, Selected-by-stage}
-use Rattle.meaning.proofs.Admitted.{block-stands}
 use Rattle.meaning.proofs.Blocks.{best-carries, blockwise-stands, blockwise-unique}
 use Rattle.meaning.proofs.Monotone.{Lawful}
 use Rattle.meaning.proofs.Selections.{yes-no-laws, blockwise-selected, selected-blockwise}

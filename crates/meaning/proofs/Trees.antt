@@ -1,8 +1,7 @@
 -- The trees of the examples keep the laws.
-use mathlib.Core.Path.{_≡_, refl, sym, _∙_, ap, subst}
-use mathlib.Core.Logic.{_⊎_, inl, inr}
-use mathlib.Core.Bool.{Bool, true, false, cond}
-use Prim.Native.Nat.{ℕ, _+_, _<_, _≤_}
+use mathlib.Core.Path.{_≡_, refl, sym, _∙_, ap}
+use mathlib.Core.Logic.{inl, inr}
+use Prim.Native.Nat.{ℕ, _<_, _≤_}
 use native.Mathlib.Omega.{arith}
 use lib.Dec.{eqb, lit≤}
 use Rattle.std.proofs.shelf.Tests.{cond-true, cond-false, eq-eqb, ne-eqb, cases-eq}
@@ -10,8 +9,8 @@ use Rattle.std.specs.declared.option.Option.{Option}
 use Rattle.std.specs.declared.option.Option.the-variants.{None, Some}
 use Rattle.shapes.specs.declared.axis.Axis.{Axis}
 use Rattle.shapes.specs.declared.axis.Axis.the-variants.{First, Next, Owner, Previous}
-use Rattle.shapes.specs.Tree.{Tree, Laws, Either-one, Present, along, back}
-use Rattle.meaning.specs.Examples.{only, nowhere, one-node, two-nodes, three-nodes}
+use Rattle.shapes.specs.Tree.{Laws, Either-one, Present, along, back}
+use Rattle.meaning.specs.Examples.{only, one-node, two-nodes, three-nodes}
 
 never : {A : Type 0} (y : ℕ) → _≡_ {A = Option ℕ} None (Some y) → A
 never y e = let z : _≡_ {A = ℕ} 0 1 = cc in absurd (omega arith)

@@ -10,8 +10,8 @@ use Rattle.shapes.specs.Tree.{Tree, Laws as TreeLaws}
 use Rattle.queries.specs.declared.block.Solution.{Solution}
 use Rattle.queries.specs.declared.block.Solution.the-variants.{Least, Greatest}
 use Rattle.queries.specs.Table.{Table, Admitted, term-at, block-of, direction}
-use Rattle.meaning.specs.Solutions.{Grades, Entry, Better, Solves, Blockwise, grade-of}
-use Rattle.meaning.specs.Examples.{Example, two-nodes, three-nodes, one-node, reach, cycle, itself, Reaches-right, Cycle-greatest, Cycle-least, Itself-greatest, Itself-least}
+use Rattle.meaning.specs.Solutions.{Grades, Better, Solves, Blockwise, grade-of}
+use Rattle.meaning.specs.Examples.{Example, two-nodes, one-node, cycle, itself, Reaches-right, Cycle-greatest, Cycle-least, Itself-greatest, Itself-least}
 use Rattle.meaning.proofs.Blocks.{blockwise-stands}
 use Rattle.meaning.proofs.Fitting.{below-one, below-two, reach-admitted, cycle-admitted, itself-admitted}
 use Rattle.meaning.proofs.Trees.{one-lawful, two-lawful, three-lawful}

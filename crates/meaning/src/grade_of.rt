@@ -78,20 +78,14 @@ pub fn grade_of<G: Grade, S: Shape>(
             let (left, right) = entries_of(values, count, a, b, node)?;
             Some(left.join(right))
         }
-        Term::SomeNeighbour(axis, a) => entry_at_neighbour(
-            values,
-            count,
-            a,
-            shape.neighbour(axis, node),
-            G::lowest(),
-        ),
-        Term::EveryNeighbour(axis, a) => entry_at_neighbour(
-            values,
-            count,
-            a,
-            shape.neighbour(axis, node),
-            G::highest(),
-        ),
+        Term::SomeNeighbour(axis, a) => {
+            let there = shape.neighbour(axis, node);
+            entry_at_neighbour(values, count, a, there, G::lowest())
+        }
+        Term::EveryNeighbour(axis, a) => {
+            let there = shape.neighbour(axis, node);
+            entry_at_neighbour(values, count, a, there, G::highest())
+        }
         Term::Lowest => Some(G::lowest()),
         Term::Highest => Some(G::highest()),
     }

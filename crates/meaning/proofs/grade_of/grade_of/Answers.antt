@@ -1,4 +1,4 @@
-use mathlib.Core.Path.{refl, _∙_, ap, ap₂}
+use mathlib.Core.Path.{refl, _∙_, ap}
 use denote.Ref.{now}
 use Prim.Native.Nat.{_<_}
 use lib.ListN.{length}
@@ -30,10 +30,10 @@ pub returns-in-Continue-left-2 : need.returns-in-Continue-left-2
 returns-in-Continue-left-2 g c = answered (g .G·Grade .kind) (tree-of (g .S·Shape) (now (c .args .shape))) (now (c .args .marks)) (now (c .args .values)) (c .node-count-count .ensures) (c .in-Join .is) (c .if-node-count .left) (Some (c .join .result)) refl (c .in-Continue-left-2 .ensures tt .0, c .join .ensures ∙ ap (λ p. g .G·Grade .kind .joined (p .0) (p .1)) (c .in-Continue-left-2 .ensures tt .1))
 
 pub returns-in-SomeNeighbour : need.returns-in-SomeNeighbour
-returns-in-SomeNeighbour g c = answered (g .G·Grade .kind) (tree-of (g .S·Shape) (now (c .args .shape))) (now (c .args .marks)) (now (c .args .values)) (c .node-count-count .ensures) (c .in-SomeNeighbour .is) (c .if-node-count .left) (c .entry-at-neighbour .result) refl (there-as (c .entry-at-neighbour .result) (λ y. place (c .node-count-count .result) (c .in-SomeNeighbour .a) y < length (now (c .args .values))) (grades-in (g .G·Grade .kind) (c .node-count-count .result) (now (c .args .values)) (c .in-SomeNeighbour .a)) (c .neighbour .ensures) (c .lowest .ensures) (c .entry-at-neighbour .ensures))
+returns-in-SomeNeighbour g c = answered (g .G·Grade .kind) (tree-of (g .S·Shape) (now (c .args .shape))) (now (c .args .marks)) (now (c .args .values)) (c .node-count-count .ensures) (c .in-SomeNeighbour .is) (c .if-node-count .left) (c .entry-at-neighbour .result) refl (there-as (c .entry-at-neighbour .result) (λ y. place (c .node-count-count .result) (c .in-SomeNeighbour .a) y < length (now (c .args .values))) (grades-in (g .G·Grade .kind) (c .node-count-count .result) (now (c .args .values)) (c .in-SomeNeighbour .a)) (c .neighbour-there .ensures) (c .lowest .ensures) (c .entry-at-neighbour .ensures))
 
 pub returns-in-EveryNeighbour : need.returns-in-EveryNeighbour
-returns-in-EveryNeighbour g c = answered (g .G·Grade .kind) (tree-of (g .S·Shape) (now (c .args .shape))) (now (c .args .marks)) (now (c .args .values)) (c .node-count-count .ensures) (c .in-EveryNeighbour .is) (c .if-node-count .left) (c .entry-at-neighbour-in-EveryNeighbour .result) refl (there-as (c .entry-at-neighbour-in-EveryNeighbour .result) (λ y. place (c .node-count-count .result) (c .in-EveryNeighbour .a) y < length (now (c .args .values))) (grades-in (g .G·Grade .kind) (c .node-count-count .result) (now (c .args .values)) (c .in-EveryNeighbour .a)) (c .neighbour-in-EveryNeighbour .ensures) (c .highest .ensures) (c .entry-at-neighbour-in-EveryNeighbour .ensures))
+returns-in-EveryNeighbour g c = answered (g .G·Grade .kind) (tree-of (g .S·Shape) (now (c .args .shape))) (now (c .args .marks)) (now (c .args .values)) (c .node-count-count .ensures) (c .in-EveryNeighbour .is) (c .if-node-count .left) (c .entry-at-neighbour-in-EveryNeighbour .result) refl (there-as (c .entry-at-neighbour-in-EveryNeighbour .result) (λ y. place (c .node-count-count .result) (c .in-EveryNeighbour .a) y < length (now (c .args .values))) (grades-in (g .G·Grade .kind) (c .node-count-count .result) (now (c .args .values)) (c .in-EveryNeighbour .a)) (c .neighbour-there-in-EveryNeighbour .ensures) (c .highest .ensures) (c .entry-at-neighbour-in-EveryNeighbour .ensures))
 
 pub returns-in-Lowest : need.returns-in-Lowest
 returns-in-Lowest g c = answered (g .G·Grade .kind) (tree-of (g .S·Shape) (now (c .args .shape))) (now (c .args .marks)) (now (c .args .values)) (c .node-count-count .ensures) (c .in-Lowest .is) (c .if-node-count .left) (Some (c .lowest-in-Lowest .result)) refl (tt, c .lowest-in-Lowest .ensures)
