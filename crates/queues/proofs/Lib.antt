@@ -1,0 +1,4 @@
+mod Entries
+mod Chains
+mod Lists
+pub mod Uses
