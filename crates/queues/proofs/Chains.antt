@@ -10,7 +10,7 @@ use Rattle.std.proofs.shelf.Lists.{getD-set-same, getD-set-other, length-set, g
 use Rattle.std.proofs.shelf.Elements.{all-push}
 use Rattle.std.proofs.shelf.Tests.{cases-eq, le-ltb, lt-ltb, ltb-true, cond-true, cond-false, cond-both}
 use Rattle.std.specs.declared.option.Option.the-variants.{None}
-use Rattle.queues.specs.Calls.{place-of, written, between, onward, front, table-unthreaded, ends-unthreaded, table-threaded, ends-threaded}
+use Rattle.queues.specs.Calls.{place-of, written, between, onward, front, table-wiped, ends-taken, table-joined, ends-joined}
 use Rattle.queues.specs.Threads.{In, Distinct, leads, Linked, newest, ends-of, Chain, first, rest}
 use Rattle.queues.proofs.Entries.{append-in, all-in, distinct-append, newest-in, newest-push}
 
@@ -26,9 +26,6 @@ place-outside n w e (inr le) = cond-both (ltb e n) (getD w e 0) 0 (λ v. 0 ≡ v
 pub written-outside : (n : ℕ) (w : List ℕ) (e p : ℕ) → (n ≤ e) ⊎ (length w ≤ e) → w ≡ written n w e p
 written-outside n w e p (inl le) = sym (cond-false (ltb e n) (set w e p) w (le-ltb e n le))
 written-outside n w e p (inr le) = cond-both (ltb e n) (set w e p) w (λ v. w ≡ v) (λ _. sym (set-past w e p le)) (λ _. refl)
-
-pub length-written : (n : ℕ) (w : List ℕ) (e p : ℕ) → length (written n w e p) ≡ length w
-length-written n w e p = cond-both (ltb e n) (set w e p) w (λ v. length v ≡ length w) (λ _. length-set w e p) (λ _. refl)
 
 pub written-above : (n : ℕ) (w : List ℕ) (e p k : ℕ) → n ≤ k → getD (written n w e p) k 0 ≡ getD w k 0
 written-above n w e p k le =
@@ -61,10 +58,10 @@ onward-next y t =
 place-in : (w l : List ℕ) (m n x : ℕ) → Chain w m n (x ∷ l) → place-of n w x ≡ leads l
 place-in w l m n x c = cond-true (ltb x n) (getD w x 0) 0 (lt-ltb x n (omega (arith, c .inside .0, c .started))) ∙ c .linked .0
 
-pub ends-unthreaded-is : (w l : List ℕ) (m n : ℕ) → Chain w m n l → ends-unthreaded n (ends-of l) w ≡ ends-of (rest l)
-ends-unthreaded-is w [] m n c = refl
-ends-unthreaded-is w (x ∷ []) m n c = ap (λ p. onward p x) (place-in w [] m n x c)
-ends-unthreaded-is w (x ∷ y ∷ l) m n c = ap (λ p. onward p (newest y l)) (place-in w (y ∷ l) m n x c) ∙ onward-next y (newest y l)
+pub ends-taken-is : (w l : List ℕ) (m n : ℕ) → Chain w m n l → ends-taken n (ends-of l) w ≡ ends-of (rest l)
+ends-taken-is w [] m n c = refl
+ends-taken-is w (x ∷ []) m n c = ap (λ p. onward p x) (place-in w [] m n x c)
+ends-taken-is w (x ∷ y ∷ l) m n c = ap (λ p. onward p (newest y l)) (place-in w (y ∷ l) m n x c) ∙ onward-next y (newest y l)
 
 chain-rest : (w : List ℕ) (m n x : ℕ) (l : List ℕ) → Chain w m n (x ∷ l) → Chain (set w x 0) m n l
 chain-rest w m n x l c =
@@ -81,15 +78,15 @@ chain-rest w m n x l c =
           (cases-eq e x);
     }
 
-pub chain-taken : (w : List ℕ) (m n : ℕ) (l : List ℕ) → Chain w m n l → Chain (table-unthreaded n (ends-of l) w) m n (rest l)
+pub chain-taken : (w : List ℕ) (m n : ℕ) (l : List ℕ) → Chain w m n l → Chain (table-wiped n (ends-of l) w) m n (rest l)
 chain-taken w m n [] c = c
 chain-taken w m n (x ∷ l) c =
     rw (written-in n w x 0 (omega (arith, c .inside .0, c .started))) (chain-rest w m n x l c)
 
 -- put
-pub ends-threaded-is : (l : List ℕ) (e : ℕ) → ends-threaded (ends-of l) e ≡ ends-of (l ++ e ∷ [])
-ends-threaded-is [] e = refl
-ends-threaded-is (x ∷ l) e = ap (λ t. between x t) (sym (newest-push x l e))
+pub ends-joined-is : (l : List ℕ) (e : ℕ) → ends-joined (ends-of l) e ≡ ends-of (l ++ e ∷ [])
+ends-joined-is [] e = refl
+ends-joined-is (x ∷ l) e = ap (λ t. between x t) (sym (newest-push x l e))
 
 -- the table once e is put behind the list l
 abbrev joined : List ℕ → List ℕ → ℕ → List ℕ
@@ -99,9 +96,9 @@ joined w (x ∷ l) e = set (set w (newest x l) (e + 2)) e 1
 newest-below : (w l : List ℕ) (m n x : ℕ) → Chain w m n (x ∷ l) → newest x l < n
 newest-below w l m n x c = omega (arith, c .started, all-in (λ e. e < m) (x ∷ l) (newest x l) (c .inside) (newest-in x l))
 
-table-threaded-is : (w l : List ℕ) (m n e : ℕ) → Chain w m n l → e < n → table-threaded n (ends-of l) w e ≡ joined w l e
-table-threaded-is w [] m n e c lt = written-in n w e 1 lt
-table-threaded-is w (x ∷ l) m n e c lt =
+table-joined-is : (w l : List ℕ) (m n e : ℕ) → Chain w m n l → e < n → table-joined n (ends-of l) w e ≡ joined w l e
+table-joined-is w [] m n e c lt = written-in n w e 1 lt
+table-joined-is w (x ∷ l) m n e c lt =
     written-in n (written n w (newest x l) (e + 2)) e 1 lt ∙ ap (λ v. set v e 1) (written-in n w (newest x l) (e + 2) (newest-below w l m n x c))
 
 linked-more : (w : List ℕ) (x : ℕ) (l : List ℕ) (e : ℕ) → e < length w → newest x l < length w → Distinct (x ∷ l) → (In e (x ∷ l) → ⊥) → Linked w (x ∷ l) → Linked (set (set w (newest x l) (e + 2)) e 1) ((x ∷ l) ++ e ∷ [])
@@ -143,9 +140,9 @@ chain-joined w m n l e c lt o =
           joined-others w l e k (λ s. out (append-in k l (e ∷ []) (inr (inl (sym s))))) ol ∙ c .others k below ol;
     }
 
-pub chain-put : (w : List ℕ) (m n : ℕ) (l : List ℕ) (e : ℕ) → Chain w m n l → e < m → (In e l → ⊥) → Chain (table-threaded n (ends-of l) w e) m n (l ++ e ∷ [])
+pub chain-put : (w : List ℕ) (m n : ℕ) (l : List ℕ) (e : ℕ) → Chain w m n l → e < m → (In e l → ⊥) → Chain (table-joined n (ends-of l) w e) m n (l ++ e ∷ [])
 chain-put w m n l e c lt o =
-    rw (table-threaded-is w l m n e c (omega (arith, c .started))) (chain-joined w m n l e c lt o)
+    rw (table-joined-is w l m n e c (omega (arith, c .started))) (chain-joined w m n l e c lt o)
 
 -- clear: the table w, once its first e places hold 0
 wiped-length : (w v : List ℕ) (e : ℕ) → e ≤ length w → v ≡ replicate (length (take e w)) 0 → length v ≡ e

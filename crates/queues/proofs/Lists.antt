@@ -17,10 +17,10 @@ use Rattle.std.specs.declared.option.Option.{Option}
 use Rattle.std.specs.declared.option.Option.the-variants.{Some, None}
 use Rattle.queues.specs.declared.queue.Ends.{Ends}
 use Rattle.queues.specs.declared.queue.Queue.{Queue}
-use Rattle.queues.specs.Calls.{front, head-of, emptied, table-unthreaded, ends-unthreaded, table-taken, queue-taken, free, table-threaded, table-put, queue-put}
+use Rattle.queues.specs.Calls.{front, head-of, emptied, table-wiped, ends-taken, table-unthreaded, queue-unthreaded, table-taken, queue-taken, free, table-joined, table-threaded, queue-threaded}
 use Rattle.queues.specs.Threads.{In, Chain, Threads, run, first, rest}
 use Rattle.queues.proofs.Entries.{in-or-out, in-append, append-in, in-counting, counting-in, counting-more, counting-none}
-use Rattle.queues.proofs.Chains.{length-written, written-above, linked-marked, front-is, ends-unthreaded-is, chain-taken, ends-threaded-is, chain-put, wiped-past, wiped-below}
+use Rattle.queues.proofs.Chains.{written-above, linked-marked, front-is, ends-taken-is, chain-taken, ends-joined-is, chain-put, wiped-past, wiped-below}
 
 -- the list begins with the run, or is threaded as a whole
 list-fresh : (w : List ℕ) (q : Queue) (l : List ℕ) (t : Threads w q l) → q .fresh < q .size → l ≡ q .fresh ∷ (counting (q .fresh + 1) (q .size - (q .fresh + 1)) ++ t .back)
@@ -66,12 +66,12 @@ taken-fresh w q l lt t =
       };
     }
 
-taken-threaded : (w : List ℕ) (q : Queue) (l : List ℕ) → q .size ≤ q .fresh → Threads w q l → Threads (table-unthreaded (q .size) (q .ends) w) (record { fresh = q .fresh; size = q .size; ends = ends-unthreaded (q .size) (q .ends) w }) (rest l)
+taken-threaded : (w : List ℕ) (q : Queue) (l : List ℕ) → q .size ≤ q .fresh → Threads w q l → Threads (table-unthreaded q w) (queue-unthreaded q w) (rest l)
 taken-threaded w q l le t =
     record {
       back = rest (t .back);
       list = ap rest (list-threaded w q l t le) ∙ sym (ap (λ r. r ++ rest (t .back)) (counting-none (q .fresh) (q .size) le));
-      ends = ap (λ o. ends-unthreaded (q .size) o w) (t .ends) ∙ ends-unthreaded-is w (t .back) (q .fresh) (q .size) (t .chain);
+      ends = ap (λ o. ends-taken (q .size) o w) (t .ends) ∙ ends-taken-is w (t .back) (q .fresh) (q .size) (t .chain);
       chain = rw (t .ends) (chain-taken w (q .fresh) (q .size) (t .back) (t .chain));
     }
 
@@ -85,17 +85,13 @@ taken-lists w q l t =
 pub take-lists : (w w′ : List ℕ) (q q′ : Queue) (r : Option ℕ) → r ≡ head-of q → w′ ≡ table-taken q w → q′ ≡ queue-taken q w → (l : List ℕ) → Threads w q l → (r ≡ first l) × Threads w′ q′ (rest l)
 take-lists w w′ q q′ r er ew eq l t = (er ∙ head-first w q l t, rw (ew, eq) (taken-lists w q l t))
 
-unthreaded-length : (n : ℕ) (o : Option Ends) (w : List ℕ) → length (table-unthreaded n o w) ≡ length w
-unthreaded-length n None w = refl
-unthreaded-length n (Some s) w = length-written n w (s .head) 0
-
-unthreaded-above : (n : ℕ) (o : Option Ends) (w : List ℕ) (k : ℕ) → n ≤ k → getD (table-unthreaded n o w) k 0 ≡ getD w k 0
-unthreaded-above n None w k le = refl
-unthreaded-above n (Some s) w k le = written-above n w (s .head) 0 k le
+wiped-above : (n : ℕ) (o : Option Ends) (w : List ℕ) (k : ℕ) → n ≤ k → getD (table-wiped n o w) k 0 ≡ getD w k 0
+wiped-above n None w k le = refl
+wiped-above n (Some s) w k le = written-above n w (s .head) 0 k le
 
 pub taken-above : (q : Queue) (w w′ : List ℕ) → w′ ≡ table-taken q w → (k : ℕ) → q .size ≤ k → getD w′ k 0 ≡ getD w k 0
 taken-above q w w′ e k le =
-    rw e (cond-both (ltb (q .fresh) (q .size)) w (table-unthreaded (q .size) (q .ends) w) (λ v. getD v k 0 ≡ getD w k 0) (λ _. refl) (λ _. unthreaded-above (q .size) (q .ends) w k le))
+    rw e (cond-both (ltb (q .fresh) (q .size)) w (table-unthreaded q w) (λ v. getD v k 0 ≡ getD w k 0) (λ _. refl) (λ _. wiped-above (q .size) (q .ends) w k le))
 
 -- put
 pub free-parts : (q : Queue) (w : List ℕ) (e : ℕ) → free q w e ≡ true → (e < q .fresh) × (getD w e 0 ≡ 0)
@@ -125,16 +121,16 @@ in-waits w q l e t i =
     ⊎-elim (λ j. inl (in-counting e (q .fresh) (q .size - q .fresh) j .0)) (λ j. inr (linked-marked w (t .back) e (t .chain .linked) j))
     (in-append e (run q) (t .back) (rw (t .list) at i))
 
-put-threads : (w : List ℕ) (q : Queue) (l : List ℕ) (e : ℕ) → Threads w q l → e < q .fresh → (In e l → ⊥) → Threads (table-put q w e) (queue-put q e) (l ++ e ∷ [])
+put-threads : (w : List ℕ) (q : Queue) (l : List ℕ) (e : ℕ) → Threads w q l → e < q .fresh → (In e l → ⊥) → Threads (table-threaded q w e) (queue-threaded q e) (l ++ e ∷ [])
 put-threads w q l e t lt o =
     record {
       back = t .back ++ e ∷ [];
       list = ap (λ m. m ++ e ∷ []) (t .list) ∙ append-assoc (run q) (t .back) (e ∷ []);
-      ends = rw (t .ends) (ends-threaded-is (t .back) e);
+      ends = rw (t .ends) (ends-joined-is (t .back) e);
       chain = rw (t .ends) (chain-put w (q .fresh) (q .size) (t .back) e (t .chain) lt (λ i. o (rw (t .list) (append-in e (run q) (t .back) (inr i)))));
     }
 
-pub put-lists : (w w′ : List ℕ) (q q′ : Queue) (e : ℕ) (r : Bool) → r ≡ free q w e → w′ ≡ cond r (table-put q w e) w → q′ ≡ cond r (queue-put q e) q → (l : List ℕ) → Threads w q l → e < q .size → When r ((In e l → ⊥) × Threads w′ q′ (l ++ e ∷ [])) (In e l × Threads w′ q′ l)
+pub put-lists : (w w′ : List ℕ) (q q′ : Queue) (e : ℕ) (r : Bool) → r ≡ free q w e → w′ ≡ cond r (table-threaded q w e) w → q′ ≡ cond r (queue-threaded q e) q → (l : List ℕ) → Threads w q l → e < q .size → When r ((In e l → ⊥) × Threads w′ q′ (l ++ e ∷ [])) (In e l × Threads w′ q′ l)
 put-lists w w′ q q′ e true er ew eq l t lt =
     let p = free-parts q w e (sym er) in
     let o : In e l → ⊥ = λ i. ⊎-elim (λ le. omega (arith, p .0)) (λ m. m (p .1)) (in-waits w q l e t i) in
@@ -144,12 +140,12 @@ put-lists w w′ q q′ e false er ew eq l t lt = (
   rw (ew, eq) t,
 )
 
-threaded-above : (n : ℕ) (o : Option Ends) (w : List ℕ) (e k : ℕ) → n ≤ k → getD (table-threaded n o w e) k 0 ≡ getD w k 0
-threaded-above n None w e k le = written-above n w e 1 k le
-threaded-above n (Some s) w e k le = written-above n _ e 1 k le ∙ written-above n w (s .tail) (e + 2) k le
+joined-above : (n : ℕ) (o : Option Ends) (w : List ℕ) (e k : ℕ) → n ≤ k → getD (table-joined n o w e) k 0 ≡ getD w k 0
+joined-above n None w e k le = written-above n w e 1 k le
+joined-above n (Some s) w e k le = written-above n _ e 1 k le ∙ written-above n w (s .tail) (e + 2) k le
 
-pub put-above : (q : Queue) (w w′ : List ℕ) (e : ℕ) (r : Bool) → w′ ≡ cond r (table-put q w e) w → (k : ℕ) → q .size ≤ k → getD w′ k 0 ≡ getD w k 0
-put-above q w w′ e true h k le = rw h (threaded-above (q .size) (q .ends) w e k le)
+pub put-above : (q : Queue) (w w′ : List ℕ) (e : ℕ) (r : Bool) → w′ ≡ cond r (table-threaded q w e) w → (k : ℕ) → q .size ≤ k → getD w′ k 0 ≡ getD w k 0
+put-above q w w′ e true h k le = rw h (joined-above (q .size) (q .ends) w e k le)
 put-above q w w′ e false h k le = ap (λ v. getD v k 0) h
 
 -- rising, clear: nothing is threaded where each place is 0

@@ -37,42 +37,46 @@ front (Some s) = Some (s .head)
 abbrev pub head-of : Queue → Option ℕ
 head-of q = cond (ltb (q .fresh) (q .size)) (Some (q .fresh)) (front (q .ends))
 
--- take: from the rising run, or else from the threaded entries
 -- the ends once an entry whose place held p is taken off the front
 abbrev pub onward : ℕ → ℕ → Option Ends
 onward p t = cond (ltb p 2) None (between (p - 2) t)
 
-abbrev pub table-unthreaded : ℕ → Option Ends → List ℕ → List ℕ
-table-unthreaded n None w = w
-table-unthreaded n (Some s) w = written n w (s .head) 0
+-- take: from the rising run, or else the first of the threaded entries
+abbrev pub table-wiped : ℕ → Option Ends → List ℕ → List ℕ
+table-wiped n None w = w
+table-wiped n (Some s) w = written n w (s .head) 0
 
-abbrev pub ends-unthreaded : ℕ → Option Ends → List ℕ → Option Ends
-ends-unthreaded n None w = None
-ends-unthreaded n (Some s) w = onward (place-of n w (s .head)) (s .tail)
+abbrev pub ends-taken : ℕ → Option Ends → List ℕ → Option Ends
+ends-taken n None w = None
+ends-taken n (Some s) w = onward (place-of n w (s .head)) (s .tail)
+
+abbrev pub table-unthreaded : Queue → List ℕ → List ℕ
+table-unthreaded q w = table-wiped (q .size) (q .ends) w
+
+abbrev pub queue-unthreaded : Queue → List ℕ → Queue
+queue-unthreaded q w = record { fresh = q .fresh; size = q .size; ends = ends-taken (q .size) (q .ends) w }
 
 abbrev pub table-taken : Queue → List ℕ → List ℕ
-table-taken q w = cond (ltb (q .fresh) (q .size)) w (table-unthreaded (q .size) (q .ends) w)
+table-taken q w = cond (ltb (q .fresh) (q .size)) w (table-unthreaded q w)
 
 abbrev pub queue-taken : Queue → List ℕ → Queue
 queue-taken q w =
-    cond (ltb (q .fresh) (q .size))
-    (record { fresh = q .fresh + 1; size = q .size; ends = q .ends })
-    (record { fresh = q .fresh; size = q .size; ends = ends-unthreaded (q .size) (q .ends) w })
+    cond (ltb (q .fresh) (q .size)) (record { fresh = q .fresh + 1; size = q .size; ends = q .ends }) (queue-unthreaded q w)
 
 -- put: an entry of the queue, in the table, that is neither in the rising run nor threaded
 abbrev pub free : Queue → List ℕ → ℕ → Bool
 free q w e = ltb e (q .fresh) && (ltb e (q .size) && (ltb e 131072 && (ltb e (length w) && eqb (getD w e 0) 0)))
 
-abbrev pub table-threaded : ℕ → Option Ends → List ℕ → ℕ → List ℕ
-table-threaded n None w e = written n w e 1
-table-threaded n (Some s) w e = written n (written n w (s .tail) (e + 2)) e 1
+abbrev pub table-joined : ℕ → Option Ends → List ℕ → ℕ → List ℕ
+table-joined n None w e = written n w e 1
+table-joined n (Some s) w e = written n (written n w (s .tail) (e + 2)) e 1
 
-abbrev pub ends-threaded : Option Ends → ℕ → Option Ends
-ends-threaded None e = between e e
-ends-threaded (Some s) e = between (s .head) e
+abbrev pub ends-joined : Option Ends → ℕ → Option Ends
+ends-joined None e = between e e
+ends-joined (Some s) e = between (s .head) e
 
-abbrev pub table-put : Queue → List ℕ → ℕ → List ℕ
-table-put q w e = table-threaded (q .size) (q .ends) w e
+abbrev pub table-threaded : Queue → List ℕ → ℕ → List ℕ
+table-threaded q w e = table-joined (q .size) (q .ends) w e
 
-abbrev pub queue-put : Queue → ℕ → Queue
-queue-put q e = record { fresh = q .fresh; size = q .size; ends = ends-threaded (q .ends) e }
+abbrev pub queue-threaded : Queue → ℕ → Queue
+queue-threaded q e = record { fresh = q .fresh; size = q .size; ends = ends-joined (q .ends) e }

@@ -3,7 +3,7 @@
 // costs a few reads and writes, a start writes nothing, and nothing is allocated.
 
 ghost use Prim.Native.Nat.{ℕ, _<_, _≤_};
-ghost use Rattle.queues.specs.Calls.{place-of, written, onward, rising-queue, head-of, table-taken, queue-taken, free, table-put, queue-put, emptied};
+ghost use Rattle.queues.specs.Calls.{place-of, written, onward, rising-queue, front, head-of, table-unthreaded, queue-unthreaded, table-taken, queue-taken, free, table-threaded, queue-threaded, emptied};
 ghost use Rattle.queues.specs.Threads.{In, Threads, first, rest};
 ghost use Rattle.std.specs.Iters.{counting};
 ghost use Rattle.std.specs.Options.{isSome};
@@ -13,7 +13,7 @@ ghost use mathlib.Core.Bool.{cond, not};
 ghost use mathlib.Core.List.{List, [], _∷_, _++_};
 ghost use mathlib.Core.Path.{_≡_};
 
-// A queue has at most this many entries, numbered from 0.
+// A queue is for at most this many entries, numbered from 0: one at or past it is never put.
 pub const MOST: usize = 131_072;
 
 // What the place of an entry says: it is not threaded; it is, and is the last; or, `e + NEXT`, it is, and the next is `e`.
@@ -116,6 +116,36 @@ impl Queue {
             && waiting[entry] == IDLE
     }
 
+    // Takes the first of the threaded entries, and wipes its place.
+    fn unthread(&mut self, waiting: &mut [u32]) -> Option<usize>
+        ensures value { λ r. ⌜ r ≡ front (now (self .entry) .ends) ⌝ }
+        ensures table { λ _. ⌜ now (waiting .exit) ≡ table-unthreaded (now (self .entry)) (now (waiting .entry)) ⌝ }
+        ensures queue { λ _. ⌜ now (self .exit) ≡ queue-unthreaded (now (self .entry)) (now (waiting .entry)) ⌝ }
+    {
+        let Ends { head, tail } = self.ends?;
+        let place = self.place(waiting, head);
+        self.mark(waiting, head, IDLE);
+        self.ends = past(place, tail);
+        Some(head)
+    }
+
+    // Threads an entry behind the others. Its place is written last, so that it says "last" even where the tail's place is the same.
+    fn thread(&mut self, waiting: &mut [u32], entry: usize)
+        requires { ⌜ entry < 131072 ⌝ }
+        ensures table { λ _. ⌜ now (waiting .exit) ≡ table-threaded (now (self .entry)) (now (waiting .entry)) entry ⌝ }
+        ensures queue { λ _. ⌜ now (self .exit) ≡ queue-threaded (now (self .entry)) entry ⌝ }
+    {
+        let head = match self.ends {
+            None => entry,
+            Some(Ends { head, tail }) => {
+                self.mark(waiting, tail, entry as u32 + NEXT);
+                head
+            }
+        };
+        self.mark(waiting, entry, LAST);
+        self.ends = Some(Ends { head, tail: entry });
+    }
+
     // Takes the entry that waits longest, if any does. One that was threaded has its place wiped; no other place changes.
     // After it comes what its place says: where something else wrote there, that can lie outside the queue, and the queue is empty after it.
     pub fn take(&mut self, waiting: &mut [u32]) -> Option<usize>
@@ -132,19 +162,14 @@ impl Queue {
             self.fresh += 1;
             return Some(entry);
         }
-        let Ends { head, tail } = self.ends?;
-        let place = self.place(waiting, head);
-        self.mark(waiting, head, IDLE);
-        self.ends = past(place, tail);
-        Some(head)
+        self.unthread(waiting)
     }
 
     // Puts an entry at the back, and answers whether it did: not where it waits already, or is none of the queue's or has no place.
-    // The entry's place is written last, so that it says "last" even where the tail's place, which is written first, is the same.
     pub fn put(&mut self, waiting: &mut [u32], entry: usize) -> bool
         ensures value { λ r. ⌜ r ≡ free (now (self .entry)) (now (waiting .entry)) entry ⌝ }
-        ensures table { λ r. ⌜ now (waiting .exit) ≡ cond r (table-put (now (self .entry)) (now (waiting .entry)) entry) (now (waiting .entry)) ⌝ }
-        ensures queue { λ r. ⌜ now (self .exit) ≡ cond r (queue-put (now (self .entry)) entry) (now (self .entry)) ⌝ }
+        ensures table { λ r. ⌜ now (waiting .exit) ≡ cond r (table-threaded (now (self .entry)) (now (waiting .entry)) entry) (now (waiting .entry)) ⌝ }
+        ensures queue { λ r. ⌜ now (self .exit) ≡ cond r (queue-threaded (now (self .entry)) entry) (now (self .entry)) ⌝ }
         ensures size { λ _. ⌜ now (self .exit) .size ≡ now (self .entry) .size ⌝ }
         ensures len { λ _. ⌜ length (now (waiting .exit)) ≡ length (now (waiting .entry)) ⌝ }
         ensures above { λ _. ⌜ ((k : ℕ) → now (self .entry) .size ≤ k → getD (now (waiting .exit)) k 0 ≡ getD (now (waiting .entry)) k 0) ⌝ }
@@ -153,15 +178,7 @@ impl Queue {
         if !self.is_free(waiting, entry) {
             return false;
         }
-        let head = match self.ends {
-            None => entry,
-            Some(Ends { head, tail }) => {
-                self.mark(waiting, tail, entry as u32 + NEXT);
-                head
-            }
-        };
-        self.mark(waiting, entry, LAST);
-        self.ends = Some(Ends { head, tail: entry });
+        self.thread(waiting, entry);
         true
     }
 
