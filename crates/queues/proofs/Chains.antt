@@ -1,16 +1,16 @@
 -- A list that is threaded through a table: what taking its first entry and putting one more at its end leave.
-use Prim.Native.Nat.{ℕ, _+_, _-_, _≤_, _<_}
+use Prim.Native.Nat.{ℕ, _+_, _-_, _≤_, _<_, min}
 use native.Mathlib.Omega.{arith}
 use mathlib.Core.Path.{_≡_, refl, sym, ap, subst, _∙_}
 use mathlib.Core.Logic.{_⊎_, _≢_, inl, inr, ⊎-elim}
 use mathlib.Core.List.{List, [], _∷_, _++_}
 use lib.Dec.{ltb}
-use lib.ListN.{length, getD, set, take, drop, replicate}
-use Rattle.std.proofs.shelf.Lists.{getD-set-same, getD-set-other, length-set, getD-past, set-past, length-take-le, length-replicate, getD-replicate, getD-drop, getD-append-left, getD-append-right}
+use lib.ListN.{length, getD, set, drop, replicate}
+use Rattle.std.proofs.shelf.Lists.{getD-set-same, getD-set-other, length-set, getD-past, set-past, length-replicate, getD-replicate, getD-drop, getD-append-left, getD-append-right}
 use Rattle.std.proofs.shelf.Elements.{all-push}
-use Rattle.std.proofs.shelf.Tests.{cases-eq, le-ltb, lt-ltb, ltb-true, cond-true, cond-false, cond-both}
+use Rattle.std.proofs.shelf.Tests.{cases-eq, cases-lt, le-ltb, lt-ltb, ltb-true, cond-true, cond-false, cond-both}
 use Rattle.std.specs.declared.option.Option.the-variants.{None}
-use Rattle.queues.specs.Calls.{place-of, written, between, onward, front, table-wiped, ends-taken, table-joined, ends-joined}
+use Rattle.queues.specs.Calls.{place-of, written, wiped, between, onward, front, table-wiped, ends-taken, table-joined, ends-joined}
 use Rattle.queues.specs.Threads.{In, Distinct, leads, Linked, newest, ends-of, Chain, first, rest}
 use Rattle.queues.proofs.Entries.{append-in, all-in, distinct-append, newest-in, newest-push}
 
@@ -144,15 +144,19 @@ pub chain-put : (w : List ℕ) (m n : ℕ) (l : List ℕ) (e : ℕ) → Chain w 
 chain-put w m n l e c lt o =
     rw (table-joined-is w l m n e c (omega (arith, c .started))) (chain-joined w m n l e c lt o)
 
--- clear: the table w, once its first e places hold 0
-wiped-length : (w v : List ℕ) (e : ℕ) → e ≤ length w → v ≡ replicate (length (take e w)) 0 → length v ≡ e
-wiped-length w v e le h = ap length h ∙ (length-replicate (length (take e w)) 0 ∙ length-take-le e w le)
+-- clear
+wiped-past : (w : List ℕ) (e k : ℕ) → e ≤ k → getD (replicate e 0 ++ drop e w) k 0 ≡ getD w k 0
+wiped-past w e k le =
+    getD-append-right (replicate e 0) (drop e w) e k 0 (length-replicate e 0) le ∙ (getD-drop e w (k - e) 0 ∙ ap (λ j. getD w j 0) (omega arith))
 
-pub wiped-past : (w v : List ℕ) (e : ℕ) → e ≤ length w → v ≡ replicate (length (take e w)) 0 → (k : ℕ) → e ≤ k → getD (v ++ drop e w) k 0 ≡ getD w k 0
-wiped-past w v e le h k past =
-    getD-append-right v (drop e w) e k 0 (wiped-length w v e le h) past ∙ (getD-drop e w (k - e) 0 ∙ ap (λ j. getD w j 0) (omega arith))
+pub wiped-above : (n : ℕ) (w w′ : List ℕ) → w′ ≡ wiped n w → (k : ℕ) → n ≤ k → getD w′ k 0 ≡ getD w k 0
+wiped-above n w w′ h k le = ap (λ v. getD v k 0) h ∙ wiped-past w (min n (length w)) k (omega arith)
 
-pub wiped-below : (w v : List ℕ) (e : ℕ) → e ≤ length w → v ≡ replicate (length (take e w)) 0 → (k : ℕ) → k < e → getD (v ++ drop e w) k 0 ≡ 0
-wiped-below w v e le h k lt =
-    getD-append-left v (drop e w) 0 k (omega (arith, wiped-length w v e le h))
-    ∙ (ap (λ u. getD u k 0) h ∙ getD-replicate (length (take e w)) k 0 0 (omega (arith, length-take-le e w le)))
+pub wiped-below : (n : ℕ) (w w′ : List ℕ) → w′ ≡ wiped n w → (k : ℕ) → k < n → getD w′ k 0 ≡ 0
+wiped-below n w w′ h k lt =
+    let e : ℕ = min n (length w) in
+    ap (λ v. getD v k 0) h
+    ∙ ⊎-elim
+    (λ i. getD-append-left (replicate e 0) (drop e w) 0 k (rw (length-replicate {A = ℕ} e 0) i) ∙ getD-replicate e k 0 0 i)
+    (λ le. wiped-past w e k le ∙ getD-past w k 0 (omega arith))
+    (cases-lt k e)

@@ -1,16 +1,16 @@
 -- What the calls do to the list of those that wait, from what they leave in every case.
-use Prim.Native.Nat.{ℕ, _+_, _-_, _≤_, _<_, min}
+use Prim.Native.Nat.{ℕ, _+_, _-_, _≤_, _<_}
 use native.Mathlib.Omega.{arith}
 use mathlib.Core.Path.{_≡_, refl, sym, ap, _∙_}
 use mathlib.Core.Bool.{Bool, true, false, cond, not}
 use mathlib.Core.Logic.{_⊎_, inl, inr, ⊎-elim}
 use mathlib.Core.List.{List, [], _∷_, _++_}
 use lib.Dec.{ltb}
-use lib.ListN.{length, getD, take, drop, replicate}
+use lib.ListN.{length, getD}
 use Rattle.std.specs.Iters.{counting}
 use Rattle.std.specs.Options.{isSome}
 use Rattle.std.specs.Orderings.{When, Decides}
-use Rattle.std.proofs.shelf.Lists.{append-assoc, getD-past}
+use Rattle.std.proofs.shelf.Lists.{append-assoc}
 use Rattle.std.proofs.shelf.Elements.{all-weaker}
 use Rattle.std.proofs.shelf.Tests.{cases-lt, le-ltb, lt-ltb, ltb-true, eq-eqb, eqb-true, cond-true, cond-false, cond-both, and-from, and-parts, both-ways}
 use Rattle.std.specs.declared.option.Option.{Option}
@@ -20,7 +20,7 @@ use Rattle.queues.specs.declared.queue.Queue.{Queue}
 use Rattle.queues.specs.Calls.{front, head-of, emptied, table-wiped, ends-taken, table-unthreaded, queue-unthreaded, table-taken, queue-taken, free, table-joined, table-threaded, queue-threaded}
 use Rattle.queues.specs.Threads.{In, Chain, Threads, run, first, rest}
 use Rattle.queues.proofs.Entries.{in-or-out, in-append, append-in, in-counting, counting-in, counting-more, counting-none}
-use Rattle.queues.proofs.Chains.{written-above, linked-marked, front-is, ends-taken-is, chain-taken, ends-joined-is, chain-put, wiped-past, wiped-below}
+use Rattle.queues.proofs.Chains.{written-above, linked-marked, front-is, ends-taken-is, chain-taken, ends-joined-is, chain-put}
 
 -- the list begins with the run, or is threaded as a whole
 list-fresh : (w : List ℕ) (q : Queue) (l : List ℕ) (t : Threads w q l) → q .fresh < q .size → l ≡ q .fresh ∷ (counting (q .fresh + 1) (q .size - (q .fresh + 1)) ++ t .back)
@@ -85,13 +85,13 @@ taken-lists w q l t =
 pub take-lists : (w w′ : List ℕ) (q q′ : Queue) (r : Option ℕ) → r ≡ head-of q → w′ ≡ table-taken q w → q′ ≡ queue-taken q w → (l : List ℕ) → Threads w q l → (r ≡ first l) × Threads w′ q′ (rest l)
 take-lists w w′ q q′ r er ew eq l t = (er ∙ head-first w q l t, rw (ew, eq) (taken-lists w q l t))
 
-wiped-above : (n : ℕ) (o : Option Ends) (w : List ℕ) (k : ℕ) → n ≤ k → getD (table-wiped n o w) k 0 ≡ getD w k 0
-wiped-above n None w k le = refl
-wiped-above n (Some s) w k le = written-above n w (s .head) 0 k le
+unthreaded-above : (n : ℕ) (o : Option Ends) (w : List ℕ) (k : ℕ) → n ≤ k → getD (table-wiped n o w) k 0 ≡ getD w k 0
+unthreaded-above n None w k le = refl
+unthreaded-above n (Some s) w k le = written-above n w (s .head) 0 k le
 
 pub taken-above : (q : Queue) (w w′ : List ℕ) → w′ ≡ table-taken q w → (k : ℕ) → q .size ≤ k → getD w′ k 0 ≡ getD w k 0
 taken-above q w w′ e k le =
-    rw e (cond-both (ltb (q .fresh) (q .size)) w (table-unthreaded q w) (λ v. getD v k 0 ≡ getD w k 0) (λ _. refl) (λ _. wiped-above (q .size) (q .ends) w k le))
+    rw e (cond-both (ltb (q .fresh) (q .size)) w (table-unthreaded q w) (λ v. getD v k 0 ≡ getD w k 0) (λ _. refl) (λ _. unthreaded-above (q .size) (q .ends) w k le))
 
 -- put
 pub free-parts : (q : Queue) (w : List ℕ) (e : ℕ) → free q w e ≡ true → (e < q .fresh) × (getD w e 0 ≡ 0)
@@ -152,14 +152,6 @@ put-above q w w′ e false h k le = ap (λ v. getD v k 0) h
 pub chain-none : (w : List ℕ) (m n : ℕ) → m ≤ n → n ≤ 131072 → n ≤ length w → ((k : ℕ) → k < n → getD w k 0 ≡ 0) → Chain w m n []
 chain-none w m n s a b z =
     record { started = s; range = a; room = b; inside = tt; distinct = tt; linked = tt; others = λ e lt _. z e lt }
-
-pub clear-below : (w v : List ℕ) (n e : ℕ) → e ≡ min n (length w) → v ≡ replicate (length (take e w)) 0 → (k : ℕ) → k < n → getD (v ++ drop e w) k 0 ≡ 0
-clear-below w v n e m h k lt =
-    let le : e ≤ length w = omega arith in
-    ⊎-elim (wiped-below w v e le h k) (λ past. wiped-past w v e le h k past ∙ getD-past w k 0 (omega arith)) (cases-lt k e)
-
-pub clear-above : (w v : List ℕ) (n e : ℕ) → e ≡ min n (length w) → v ≡ replicate (length (take e w)) 0 → (k : ℕ) → n ≤ k → getD (v ++ drop e w) k 0 ≡ getD w k 0
-clear-above w v n e m h k le = wiped-past w v e (omega arith) h k (omega arith)
 
 pub clear-lists : (w : List ℕ) (q : Queue) → q .size ≤ 131072 → q .size ≤ length w → ((k : ℕ) → k < q .size → getD w k 0 ≡ 0) → Threads w (emptied q) []
 clear-lists w q a b z =

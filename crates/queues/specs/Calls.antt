@@ -1,10 +1,10 @@
 -- What each call answers and leaves, for every table and every queue: also where something else has written to the table.
 -- A place of the table is 0 (the entry is not threaded), 1 (it is, and is the last) or e + 2 (it is, and the next is e).
-use Prim.Native.Nat.{ℕ, _+_, _-_}
+use Prim.Native.Nat.{ℕ, _+_, _-_, min}
 use mathlib.Core.Bool.{Bool, cond, _&&_}
-use mathlib.Core.List.{List}
+use mathlib.Core.List.{List, _++_}
 use lib.Dec.{ltb, eqb}
-use lib.ListN.{length, getD, set}
+use lib.ListN.{length, getD, set, drop, replicate}
 use Rattle.std.specs.declared.option.Option.{Option}
 use Rattle.std.specs.declared.option.Option.the-variants.{Some, None}
 use Rattle.queues.specs.declared.queue.Ends.{Ends}
@@ -25,7 +25,10 @@ between h t = Some (record { head = h; tail = t })
 abbrev pub rising-queue : ℕ → Queue
 rising-queue n = record { fresh = 0; size = n; ends = None }
 
--- clear
+-- clear: 0 at the places below n
+abbrev pub wiped : ℕ → List ℕ → List ℕ
+wiped n w = replicate (min n (length w)) 0 ++ drop (min n (length w)) w
+
 abbrev pub emptied : Queue → Queue
 emptied q = record { fresh = q .size; size = q .size; ends = None }
 

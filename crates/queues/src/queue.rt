@@ -3,7 +3,7 @@
 // costs a few reads and writes, a start writes nothing, and nothing is allocated.
 
 ghost use Prim.Native.Nat.{ℕ, _<_, _≤_};
-ghost use Rattle.queues.specs.Calls.{place-of, written, onward, rising-queue, front, head-of, table-unthreaded, queue-unthreaded, table-taken, queue-taken, free, table-threaded, queue-threaded, emptied};
+ghost use Rattle.queues.specs.Calls.{place-of, written, onward, rising-queue, front, head-of, table-unthreaded, queue-unthreaded, table-taken, queue-taken, free, table-threaded, queue-threaded, wiped, emptied};
 ghost use Rattle.queues.specs.Threads.{In, Threads, first, rest};
 ghost use Rattle.std.specs.Iters.{counting};
 ghost use Rattle.std.specs.Options.{isSome};
@@ -50,6 +50,14 @@ fn past(place: u32, tail: usize) -> Option<Ends>
             tail,
         })
     }
+}
+
+// Writes 0 at the places below `size`.
+fn wipe(waiting: &mut [u32], size: usize)
+    ensures { λ _. ⌜ now (waiting .exit) ≡ wiped size (now (waiting .entry)) ⌝ }
+{
+    let end = size.min(waiting.len());
+    waiting[..end].fill(IDLE);
 }
 
 impl Queue {
@@ -191,8 +199,7 @@ impl Queue {
         ensures queue { λ _. ⌜ now (self .exit) ≡ emptied (now (self .entry)) ⌝ }
         ensures lists { λ _. ⌜ (now (self .entry) .size ≤ length (now (waiting .entry)) → now (self .entry) .size ≤ 131072 → Threads (now (waiting .exit)) (now (self .exit)) []) ⌝ }
     {
-        let end = self.size.min(waiting.len());
-        waiting[..end].fill(IDLE);
+        wipe(waiting, self.size);
         self.fresh = self.size;
         self.ends = None;
     }

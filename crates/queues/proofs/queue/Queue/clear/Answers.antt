@@ -1,14 +1,14 @@
 use borrow.Author.Needs.{needs}
-use Rattle.queues.proofs.Lists.{clear-below, clear-above, clear-lists}
+use Rattle.queues.proofs.Chains.{wiped-below, wiped-above}
+use Rattle.queues.proofs.Lists.{clear-lists}
 use Rattle.queues.proofs.queue.Queue.clear.Needs as need
 
 pub returns : need.returns
 returns c =
-    let filled = c .fill .ensures .after (λ y h. h) in
-    let below = clear-below _ _ _ _ (c .min-end .ensures) filled in
+    let below = wiped-below _ _ _ (c .wipe .ensures) in
     record {
       below = below;
-      above = clear-above _ _ _ _ (c .min-end .ensures) filled;
+      above = wiped-above _ _ _ (c .wipe .ensures);
       size = search needs;
       len = search needs;
       queue = search needs;
