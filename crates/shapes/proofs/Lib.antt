@@ -4,6 +4,8 @@ pub mod DepthSteps
 pub mod DepthTrees
 pub mod Letters
 pub mod Mirrors
+pub mod Reaching
 pub mod Spelling
 pub mod Trees
+pub mod Verdicts
 pub mod Walks

@@ -1,7 +1,9 @@
 pub mod Addresses
+pub mod Certified
 pub mod DepthShapes
 pub mod DepthTables
 pub mod Depths
+pub mod Levels
 pub mod Links
 pub mod Mirrored
 pub mod Mirrors
