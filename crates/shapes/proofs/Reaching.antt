@@ -1,16 +1,17 @@
 -- The breadth-first search of a lawful table gives every node its level.
-use mathlib.Core.Path.{_≡_, refl, sym, ap, subst, _∙_}
+use mathlib.Core.Path.{_≡_, refl, sym, ap, ap₂, subst, _∙_}
 use mathlib.Core.Bool.{true, cond}
 use mathlib.Core.Logic.{_⊎_, inl, inr, ⊎-elim}
 use mathlib.Core.List.{List, [], _∷_, _++_}
 use Prim.Native.Nat.{ℕ, zero, suc, _+_, _<_, _≤_}
+use native.Mathlib.Numerals.{add-one}
 use native.Mathlib.Omega.{arith}
 use lib.Dec.{eqb, ltb}
 use lib.ListN.{length, getD, set, replicate}
 use Rattle.std.specs.shelf.Lists.{countBy}
 use Rattle.std.proofs.shelf.Lists.{getD-set-same, getD-set-other, getD-append-left, getD-push, getD-past, getD-replicate, length-set, length-push, length-replicate}
 use Rattle.std.proofs.shelf.Sums.{sumBy-set, sumBy-cons}
-use Rattle.std.proofs.shelf.Tests.{cond-both, cond-true, cond-false, cases-eq, cases-lt, eqb-true, eqb-false, eq-eqb, ne-eqb, ltb-true, ltb-false}
+use Rattle.std.proofs.shelf.Tests.{cond-both, cond-true, cond-false, cases-eq, cases-lt, eqb-true, eqb-false, eq-eqb, ne-eqb, lt-ltb, le-ltb, ltb-true, ltb-false}
 use Rattle.std.specs.declared.option.Option.{Option}
 use Rattle.std.specs.declared.option.Option.the-variants.{None, Some}
 use Rattle.shapes.specs.declared.axis.Axis.the-variants.{First, Next, Owner, Previous}
@@ -59,7 +60,7 @@ True-levels level n s = (x : ℕ) → x < n → (Unknown s x → ⊥) → getD (
 reach-cases : (P : Reached → Type 0) (level y : ℕ) (s : Reached) → (Unknown s y → P (with-node level y s)) → ((Unknown s y → ⊥) → P s) → P (reach level y s)
 reach-cases P level y s fresh old = cond-both (eqb (getD (s .levels) y 0) 65535) (with-node level y s) s P (λ e. fresh (eqb-true _ _ e)) (λ e. old (eqb-false _ _ e))
 
-unknown-inside : (xs : List ℕ) (y : ℕ) → getD xs y 0 ≡ 65535 → y < length xs
+pub unknown-inside : (xs : List ℕ) (y : ℕ) → getD xs y 0 ≡ 65535 → y < length xs
 unknown-inside xs y e = ⊎-elim (λ h. h) (λ h. absurd (omega (arith, getD-past xs y 0 h))) (cases-lt y (length xs))
 
 one-known : (xs : List ℕ) (y v : ℕ) → getD xs y 0 ≡ 65535 → (v ≡ 65535 → ⊥) → unknowns (set xs y v) + 1 ≡ unknowns xs
@@ -68,7 +69,7 @@ one-known xs y v e other =
       arith,
       sumBy-set (λ x. cond (eqb x 65535) 1 0) xs y v 0 (unknown-inside xs y e),
       cond-true {A = ℕ} (eqb (getD xs y 0) 65535) 1 0 (eq-eqb _ _ e),
-      cond-false {A = ℕ} (eqb v 65535) 1 0 (ne-eqb _ _ other)
+      cond-false {A = ℕ} (eqb v 65535) 1 0 (ne-eqb _ _ other),
     )
 
 all-unknown : (n : ℕ) → unknowns (replicate n 65535) ≡ n
@@ -136,9 +137,9 @@ module _ (rows : List Links) (most : length rows ≤ 2048) (i level y : ℕ) (s 
     pending = λ x h known. ⊎-elim
         (λ same. inl (record { place = length (s .order); later = early; within = omega (arith, length-push (s .order) y); is = getD-push (s .order) y 0 (length (s .order)) refl ∙ sym same }))
         (λ other. ⊎-elim
-            (λ p. inl (pending-added x p))
-            (λ d. inr (done-added x d))
-            (steady .pending x h (λ e. known (level-elsewhere x other ∙ e))))
+        (λ p. inl (pending-added x p))
+        (λ d. inr (done-added x d))
+        (steady .pending x h (λ e. known (level-elsewhere x other ∙ e))))
         (cases-eq x y);
   }
 
@@ -243,9 +244,9 @@ module _ (rows : List Links) (most : length rows ≤ 2048) (i : ℕ) (s : Reache
     tally = twice-steady .tally;
     pending = λ x h known. ⊎-elim
         (λ p. ⊎-elim
-            (λ same. inr (subst (Done rows twice) (sym same-node ∙ (ap (λ k. node-at twice k) (sym same) ∙ p .is)) done-here))
-            (λ other. inl (record { place = p .place; later = omega (arith, p .later); within = p .within; is = p .is }))
-            (cases-eq (p .place) i))
+        (λ same. inr (subst (Done rows twice) (sym same-node ∙ (ap (λ k. node-at twice k) (sym same) ∙ p .is)) done-here))
+        (λ other. inl (record { place = p .place; later = omega (arith, p .later); within = p .within; is = p .is }))
+        (cases-eq (p .place) i))
         inr
         (twice-steady .pending x h known);
   }
@@ -258,6 +259,26 @@ module _ (rows : List Links) (most : length rows ≤ 2048) (i : ℕ) (s : Reache
       (reach-true rows most i level (row .first) s steady (omega arith) low-here (laws .level)
       (λ h. omega (arith, now-level, laws .level-first (node-at s i) (row .first) (link-node (row .first) (omega arith))))
       known)
+
+pub visit-here : (rows : List Links) (i : ℕ) (s : Reached) → i < length (s .order) → visit rows i s ≡ reach-both (level-below s i) (getD rows (node-at s i) no-links) s
+visit-here rows i s h = cond-true (ltb i (length (s .order))) _ s (lt-ltb _ _ h)
+
+-- the same, by the steps of the code
+pub visit-steps : (rows : List Links) (i : ℕ) (s once twice : Reached) (node level : ℕ) (row : Links) → i < length (s .order) → node ≡ node-at s i → level ≡ getD (s .levels) node 0 → row ≡ getD rows node no-links → once ≡ reach (level + 1) (row .first) s → twice ≡ reach (level + 1) (row .next) once → twice ≡ visit rows i s
+visit-steps rows i s once twice node level row here node-is level-is row-is first next =
+    (next ∙ ap (reach (level + 1) (row .next)) first)
+    ∙ (ap₂ (λ l r. reach-both l r s) (ap (λ l. l + 1) (level-is ∙ ap (λ x. getD (s .levels) x 0) node-is)) (row-is ∙ ap (λ x. getD rows x no-links) node-is)
+    ∙ sym (visit-here rows i s here))
+
+pub visit-past : (rows : List Links) (i : ℕ) (s : Reached) → length (s .order) ≤ i → visit rows i s ≡ s
+visit-past rows i s h = cond-false (ltb i (length (s .order))) _ s (le-ltb _ _ h)
+
+pub visited-more : (rows : List Links) (i : ℕ) (s s′ : Reached) → s ≡ visited rows i → s′ ≡ visit rows i s → s′ ≡ visited rows (i + 1)
+visited-more rows i s s′ before step = step ∙ (ap (visit rows i) before ∙ sym (ap (visited rows) (add-one i)))
+
+pub visited-all : (rows : List Links) (i : ℕ) (s : Reached) → s ≡ visited rows i → i ≡ length rows → s .levels ≡ levels-of rows
+unfolding levels-of
+visited-all rows i s e all = ap (λ u. u .levels) (e ∙ ap (visited rows) all)
 
 -- what a visit leaves
 module _ (rows : List Links) (most : length rows ≤ 2048) (i : ℕ) (s : Reached) (steady : Steady rows i s) where
@@ -296,6 +317,12 @@ module _ (rows : List Links) (most : length rows ≤ 2048) where
   pub visited-steady : (i : ℕ) → Steady rows i (visited rows i)
   visited-steady zero = reach-steady rows most 0 0 0 (untouched (length rows)) untouched-steady (omega arith) (omega arith)
   visited-steady (suc i) = visit-steady rows most i (visited rows i) (visited-steady i)
+
+  -- a place of the order can be visited
+  pub placed : (i : ℕ) (s : Reached) → s ≡ visited rows i → i < length (s .order) → (node-at s i < length (s .levels)) × (level-below s i ≤ 2048)
+  placed i s e h =
+      let steady : Steady rows i s = subst (Steady rows i) (sym e) (visited-steady i) in
+      (omega (arith, steady .nodes i h, steady .size), omega (arith, steady .low i h, steady .tally))
 
   root-known : (i : ℕ) → Known (length rows) (visited rows i) 0
   root-known zero = reach-known rows most 0 0 0 (untouched (length rows)) untouched-steady (omega arith) (omega arith)

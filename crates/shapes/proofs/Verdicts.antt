@@ -133,10 +133,10 @@ module _ (t : Tree) (laws : Laws t) (level : ℕ → ℕ) (same : (x : ℕ) → 
   passes-entered x h =
       ⊎-elim
       (λ root. cond-true (eqb x 0) (root-alone t level) (one-entry t level x) (eq-eqb x 0 root)
-          ∙ and-from _ _ (and-from _ _ (eq-eqb _ _ (omega (arith, same 0 (omega (arith, laws .countable)), laws .level-root))) (none-absent _ (laws .root-next))) (and-from _ _ (none-absent _ (laws .root-owner)) (none-absent _ (laws .root-previous))))
+      ∙ and-from _ _ (and-from _ _ (eq-eqb _ _ (omega (arith, same 0 (omega (arith, laws .countable)), laws .level-root))) (none-absent _ (laws .root-next))) (and-from _ _ (none-absent _ (laws .root-owner)) (none-absent _ (laws .root-previous))))
       (λ other. let above : 0 < x = omega arith in
-          cond-false (eqb x 0) (root-alone t level) (one-entry t level x) (ne-eqb x 0 other)
-          ∙ and-from _ _ (lt-ltb _ _ (omega (arith, same x h, laws .level-other x above h))) (one-only (t .owner x) (t .previous x) (laws .one-way-in x above h)))
+      cond-false (eqb x 0) (root-alone t level) (one-entry t level x) (ne-eqb x 0 other)
+      ∙ and-from _ _ (lt-ltb _ _ (omega (arith, same x h, laws .level-other x above h))) (one-only (t .owner x) (t .previous x) (laws .one-way-in x above h)))
       (cases-eq x 0)
 
   pub tests-from-laws : (x : ℕ) → x < t .count → certified t level x ≡ true

@@ -8,5 +8,6 @@ pub mod Links
 pub mod Mirrored
 pub mod Mirrors
 pub mod Refusals
+pub mod Searches
 pub mod Shapes
 pub mod Tree

@@ -2,7 +2,9 @@
 pub mod address;
 pub mod axis;
 pub mod depth;
+mod levels;
 pub mod links;
 pub mod mirrored;
 pub mod refusal;
 pub mod shape;
+mod table;
