@@ -4,6 +4,7 @@ pub mod DepthShapes
 pub mod DepthTables
 pub mod Depths
 pub mod Levels
+pub mod LinkedShapes
 pub mod Links
 pub mod Mirrored
 pub mod Mirrors

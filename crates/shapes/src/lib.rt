@@ -3,6 +3,7 @@ pub mod address;
 pub mod axis;
 pub mod depth;
 mod levels;
+pub mod linked;
 pub mod links;
 pub mod mirrored;
 pub mod refusal;

@@ -12,6 +12,13 @@ use crate::links::Links;
 
 const NO_LINK: u16 = 65_535;
 
+pub const NO_LINKS: Links = Links {
+    first: NO_LINK,
+    next: NO_LINK,
+    owner: NO_LINK,
+    previous: NO_LINK,
+};
+
 fn decoded(number: u16) -> Option<usize>
     ensures { λ r. ⌜ r ≡ link number ⌝ }
 {
@@ -29,12 +36,7 @@ pub fn row_at(rows: &[Links], node: usize) -> Links
     if node < rows.len() {
         rows[node]
     } else {
-        Links {
-            first: NO_LINK,
-            next: NO_LINK,
-            owner: NO_LINK,
-            previous: NO_LINK,
-        }
+        NO_LINKS
     }
 }
 
