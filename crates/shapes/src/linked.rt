@@ -7,6 +7,8 @@ use crate::links::Links;
 
 mod filling;
 mod reading;
+#[cfg(test)]
+mod tests;
 
 pub use reading::LinkedShapes;
 
