@@ -264,9 +264,9 @@ pub visit-here : (rows : List Links) (i : ℕ) (s : Reached) → i < length (s .
 visit-here rows i s h = cond-true (ltb i (length (s .order))) _ s (lt-ltb _ _ h)
 
 -- the same, by the steps of the code
-pub visit-steps : (rows : List Links) (i : ℕ) (s once twice : Reached) (node level : ℕ) (row : Links) → i < length (s .order) → node ≡ node-at s i → level ≡ getD (s .levels) node 0 → row ≡ getD rows node no-links → once ≡ reach (level + 1) (row .first) s → twice ≡ reach (level + 1) (row .next) once → twice ≡ visit rows i s
-visit-steps rows i s once twice node level row here node-is level-is row-is first next =
-    (next ∙ ap (reach (level + 1) (row .next)) first)
+pub visit-steps : (rows : List Links) (i : ℕ) (s s′ : Reached) (node level : ℕ) (row : Links) → i < length (s .order) → node ≡ node-at s i → level ≡ getD (s .levels) node 0 → row ≡ getD rows node no-links → s′ ≡ reach-both (level + 1) row s → s′ ≡ visit rows i s
+visit-steps rows i s s′ node level row here node-is level-is row-is both =
+    both
     ∙ (ap₂ (λ l r. reach-both l r s) (ap (λ l. l + 1) (level-is ∙ ap (λ x. getD (s .levels) x 0) node-is)) (row-is ∙ ap (λ x. getD rows x no-links) node-is)
     ∙ sym (visit-here rows i s here))
 

@@ -1,11 +1,10 @@
 //! Levels of the nodes of a table, worked out breadth first from the root.
 ghost use mathlib.Core.Path.{_≡_};
-ghost use Prim.Native.Nat.{ℕ, _+_, _<_, _≤_};
-ghost use lib.ListN.{length, getD};
+ghost use Prim.Native.Nat.{_≤_};
+ghost use lib.ListN.{length};
 ghost use Rattle.std.specs.Of.Vec.{vec-items};
 ghost use Rattle.std.specs.Vec.{made};
-ghost use Rattle.shapes.specs.Levels.{Reached, untouched, reach, visit, visited, levels-of};
-ghost use Rattle.shapes.specs.Links.{no-links};
+ghost use Rattle.shapes.specs.Levels.{untouched, reach, reach-both, visit, visited, levels-of};
 ghost use Rattle.shapes.specs.Searches.{reached};
 use crate::links::Links;
 use crate::table::number_at;
@@ -42,6 +41,14 @@ impl Search {
         Ok(())
     }
 
+    /// Reaches what a node with these links leads to.
+    fn reach_both(&mut self, level: u16, row: Links) -> Result<(), AllocError>
+        ensures { λ r. ⌜ made r (λ _. reached (now (self .exit)) ≡ reach-both level row (reached (now (self .entry)))) ⌝ }
+    {
+        self.reach(level, row.first)?;
+        self.reach(level, row.next)
+    }
+
     /// Reaches what the node at a place of the order leads to.
     fn visit(&mut self, rows: &[Links], place: usize) -> Result<(), AllocError>
         requires few { ⌜ length (now rows) ≤ 2048 ⌝ }
@@ -52,15 +59,14 @@ impl Search {
             let node = number_at(&self.order, place) as usize;
             let level = number_at(&self.levels, node) + 1;
             let row = row_at(rows, node);
-            self.reach(level, row.first)?;
-            self.reach(level, row.next)?;
+            self.reach_both(level, row)?;
         }
         Ok(())
     }
 }
 
 /// The level of each node of a table; those that no way from the root leads to have none.
-pub fn levels_of(heap: Global, rows: &[Links]) -> Result<Vec<u16>, AllocError>
+pub(crate) fn levels_of(heap: Global, rows: &[Links]) -> Result<Vec<u16>, AllocError>
     requires { ⌜ length (now rows) ≤ 2048 ⌝ }
     ensures { λ r. ⌜ made r (λ v. vec-items v ≡ levels-of (now (rows .entry))) ⌝ }
 {

@@ -1,6 +1,7 @@
 //! Shapes: sibling trees behind one interface.
 pub mod address;
 pub mod axis;
+mod certified;
 pub mod depth;
 mod levels;
 pub mod linked;

@@ -1,18 +1,14 @@
-//! A table of links: what a node leads to, and the test of each node.
+//! Reading a table of links.
 ghost use mathlib.Core.Path.{_≡_};
-ghost use mathlib.Core.Bool.{true};
-ghost use Prim.Native.Nat.{ℕ, _<_};
-ghost use lib.ListN.{length, getD};
-ghost use Rattle.std.specs.Orderings.{Decides};
-ghost use Rattle.shapes.specs.Certified.{is-node, answered-at, all-answered, rises, both-rise, root-alone, one-entry, entered, certified};
+ghost use lib.ListN.{getD};
 ghost use Rattle.shapes.specs.Links.{link, linked-tree, no-links};
-ghost use Rattle.shapes.specs.Tree.{along, back};
+ghost use Rattle.shapes.specs.Tree.{along};
 use crate::axis::Axis;
 use crate::links::Links;
 
 const NO_LINK: u16 = 65_535;
 
-pub const NO_LINKS: Links = Links {
+pub(crate) const NO_LINKS: Links = Links {
     first: NO_LINK,
     next: NO_LINK,
     owner: NO_LINK,
@@ -30,7 +26,7 @@ fn decoded(number: u16) -> Option<usize>
 }
 
 /// The links of a node; none at the table's end and past it.
-pub fn row_at(rows: &[Links], node: usize) -> Links
+pub(crate) fn row_at(rows: &[Links], node: usize) -> Links
     ensures { λ r. ⌜ r ≡ getD (now (rows .entry)) node no-links ⌝ }
 {
     if node < rows.len() {
@@ -41,7 +37,7 @@ pub fn row_at(rows: &[Links], node: usize) -> Links
 }
 
 /// What a node leads to along an axis.
-pub fn led_to(rows: &[Links], axis: Axis, node: usize) -> Option<usize>
+pub(crate) fn led_to(rows: &[Links], axis: Axis, node: usize) -> Option<usize>
     ensures { λ r. ⌜ r ≡ along (linked-tree (now (rows .entry))) axis node ⌝ }
 {
     let row = row_at(rows, node);
@@ -53,45 +49,8 @@ pub fn led_to(rows: &[Links], axis: Axis, node: usize) -> Option<usize>
     }
 }
 
-fn reversed(axis: Axis) -> Axis
-    ensures { λ r. ⌜ r ≡ back axis ⌝ }
-{
-    match axis {
-        Axis::First => Axis::Owner,
-        Axis::Next => Axis::Previous,
-        Axis::Owner => Axis::First,
-        Axis::Previous => Axis::Next,
-    }
-}
-
-fn is_node(found: Option<usize>, node: usize) -> bool
-    ensures { λ r. ⌜ r ≡ is-node found node ⌝ }
-{
-    match found {
-        None => false,
-        Some(other) => other == node,
-    }
-}
-
-/// Whether a link along an axis leads to a node that leads back.
-fn answered(rows: &[Links], node: usize, axis: Axis) -> bool
-    ensures { λ r. ⌜ r ≡ answered-at (linked-tree (now (rows .entry))) node axis ⌝ }
-{
-    match led_to(rows, axis, node) {
-        None => true,
-        Some(other) => other < rows.len() && is_node(led_to(rows, reversed(axis), other), node),
-    }
-}
-
-fn all_answered(rows: &[Links], node: usize) -> bool
-    ensures { λ r. ⌜ r ≡ all-answered (linked-tree (now (rows .entry))) node ⌝ }
-{
-    (answered(rows, node, Axis::First) && answered(rows, node, Axis::Next))
-        && (answered(rows, node, Axis::Owner) && answered(rows, node, Axis::Previous))
-}
-
 /// The number at a place; 0 at the end and past it.
-pub fn number_at(numbers: &[u16], place: usize) -> u16
+pub(crate) fn number_at(numbers: &[u16], place: usize) -> u16
     ensures { λ r. ⌜ r ≡ getD (now (numbers .entry)) place 0 ⌝ }
 {
     if place < numbers.len() {
@@ -99,66 +58,4 @@ pub fn number_at(numbers: &[u16], place: usize) -> u16
     } else {
         0
     }
-}
-
-/// Whether the level grows by 1 where a link leads.
-fn rises(levels: &[u16], node: usize, below: Option<usize>) -> bool
-    ensures { λ r. ⌜ r ≡ rises (λ y. getD (now (levels .entry)) y 0) node below ⌝ }
-{
-    match below {
-        None => true,
-        Some(other) => number_at(levels, other) as usize == number_at(levels, node) as usize + 1,
-    }
-}
-
-fn both_rise(rows: &[Links], levels: &[u16], node: usize) -> bool
-    ensures { λ r. ⌜ r ≡ both-rise (linked-tree (now (rows .entry))) (λ y. getD (now (levels .entry)) y 0) node ⌝ }
-{
-    rises(levels, node, led_to(rows, Axis::First, node))
-        && rises(levels, node, led_to(rows, Axis::Next, node))
-}
-
-/// Whether the root stands alone at level 0.
-fn root_alone(rows: &[Links], levels: &[u16]) -> bool
-    ensures { λ r. ⌜ r ≡ root-alone (linked-tree (now (rows .entry))) (λ y. getD (now (levels .entry)) y 0) ⌝ }
-{
-    (number_at(levels, 0) == 0 && led_to(rows, Axis::Next, 0).is_none())
-        && (led_to(rows, Axis::Owner, 0).is_none() && led_to(rows, Axis::Previous, 0).is_none())
-}
-
-/// Whether a node has just one of owner and previous, and a level above 0.
-fn one_entry(rows: &[Links], levels: &[u16], node: usize) -> bool
-    ensures { λ r. ⌜ r ≡ one-entry (linked-tree (now (rows .entry))) (λ y. getD (now (levels .entry)) y 0) node ⌝ }
-{
-    let owned = led_to(rows, Axis::Owner, node).is_some();
-    let preceded = led_to(rows, Axis::Previous, node).is_some();
-    0 < number_at(levels, node) && if owned { !preceded } else { preceded }
-}
-
-fn certified(rows: &[Links], levels: &[u16], node: usize) -> bool
-    ensures { λ r. ⌜ r ≡ certified (linked-tree (now (rows .entry))) (λ y. getD (now (levels .entry)) y 0) node ⌝ }
-{
-    all_answered(rows, node) && (both_rise(rows, levels, node) && entered(rows, levels, node))
-}
-
-fn entered(rows: &[Links], levels: &[u16], node: usize) -> bool
-    ensures { λ r. ⌜ r ≡ entered (linked-tree (now (rows .entry))) (λ y. getD (now (levels .entry)) y 0) node ⌝ }
-{
-    if node == 0 {
-        root_alone(rows, levels)
-    } else {
-        one_entry(rows, levels, node)
-    }
-}
-
-/// Whether every node passes the test at these levels.
-pub fn all_certified(rows: &[Links], levels: &[u16]) -> bool
-    ensures { λ r. ⌜ Decides r ((x : ℕ) → x < length (now (rows .entry)) → certified (linked-tree (now (rows .entry))) (λ y. getD (now (levels .entry)) y 0) x ≡ true) ⌝ }
-{
-    for node in 0..rows.len() {
-        if !certified(rows, levels, node) {
-            return false;
-        }
-    }
-    true
 }

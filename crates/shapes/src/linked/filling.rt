@@ -6,12 +6,12 @@ ghost use Rattle.std.specs.Vec.{made};
 ghost use Rattle.shapes.specs.Certified.{Certified};
 ghost use Rattle.shapes.specs.LinkedShapes.{One-node, Fill-outcome};
 ghost use Rattle.shapes.specs.Tree.{Countable};
+use crate::certified::all_certified;
 use crate::levels::levels_of;
 use crate::linked::LinkedShape;
 use crate::links::Links;
 use crate::refusal::ShapeRefusal;
 use crate::table::NO_LINKS;
-use crate::table::all_certified;
 use std::alloc::AllocError;
 use std::alloc::Global;
 

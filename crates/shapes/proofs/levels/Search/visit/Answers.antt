@@ -15,15 +15,14 @@ add-level c =
     let level : c .number-at-level .result + 1 ≡ level-below (reached (c .args .self .now)) (c .args .place) = search needs in
     omega (arith, placed (c .args .rows .now) (c .pre .few) (c .args .place) (reached (c .args .self .now)) (c .pre .before) here)
 
-pub returns-in-Continue-reach-2 : need.returns-in-Continue-reach-2
-returns-in-Continue-reach-2 c =
-    visit-steps (c .args .rows .now) (c .args .place) (reached (c .args .self .now)) (reached (c .reach .last .self)) _ (c .number-at-node .result) (c .number-at-level .result) (c .row-at-row .result)
+pub returns-in-Continue-reach-both : need.returns-in-Continue-reach-both
+returns-in-Continue-reach-both c =
+    visit-steps (c .args .rows .now) (c .args .place) (reached (c .args .self .now)) _ (c .number-at-node .result) (c .number-at-level .result) (c .row-at-row .result)
     (omega arith)
     (search needs)
     (search needs)
     (c .row-at-row .ensures)
-    (c .in-Continue-reach .ensures tt)
-    (c .in-Continue-reach-2 .ensures tt)
+    (c .in-Continue-reach-both .ensures tt)
 
 pub returns-else-place-len : need.returns-else-place-len
 returns-else-place-len c = sym (visit-past (c .args .rows .now) (c .args .place) (reached (c .args .self .now)) (omega arith))
