@@ -1,18 +1,20 @@
 //! Making and filling a linked shape.
+ghost use mathlib.Core.Path.{_≡_};
 ghost use Prim.Native.Nat.{_≤_};
 ghost use lib.ListN.{length};
+ghost use Rattle.std.specs.Of.Vec.{vec-items};
 ghost use Rattle.std.specs.Orderings.{Decides};
-ghost use Rattle.std.specs.Vec.{made};
+ghost use Rattle.std.specs.Results.{Cases};
 ghost use Rattle.shapes.specs.Certified.{Certified};
 ghost use Rattle.shapes.specs.LinkedShapes.{One-node, Fill-outcome};
 ghost use Rattle.shapes.specs.Tree.{Countable};
+ghost use Rattle.shapes.specs.declared.refusal.ShapeRefusal.the-variants.{NoMemory};
 use crate::certified::all_certified;
 use crate::levels::levels_of;
 use crate::linked::LinkedShape;
 use crate::links::Links;
 use crate::refusal::ShapeRefusal;
 use crate::table::NO_LINKS;
-use std::alloc::AllocError;
 use std::alloc::Global;
 
 const MOST_NODES: usize = 2048;
@@ -24,12 +26,23 @@ fn is_countable(count: usize) -> bool
 }
 
 /// Whether a table obeys the laws of trees.
-fn is_lawful(heap: Global, rows: &[Links]) -> Result<bool, AllocError>
+fn is_lawful(heap: Global, rows: &[Links]) -> Result<bool, ShapeRefusal>
     requires { ⌜ length (now rows) ≤ 2048 ⌝ }
-    ensures { λ r. ⌜ made r (λ b. Decides b (Certified (now (rows .entry)))) ⌝ }
+    ensures { λ r. ⌜ Cases r (λ b. Decides b (Certified (now (rows .entry)))) (λ e. e ≡ NoMemory) ⌝ }
 {
-    let levels = levels_of(heap, rows)?;
-    Ok(all_certified(rows, &levels))
+    match levels_of(heap, rows) {
+        Ok(levels) => Ok(all_certified(rows, &levels)),
+        Err(_) => Err(ShapeRefusal::NoMemory),
+    }
+}
+
+fn copied(heap: Global, rows: &[Links]) -> Result<Vec<Links>, ShapeRefusal>
+    ensures { λ r. ⌜ Cases r (λ v. vec-items v ≡ now (rows .entry)) (λ e. e ≡ NoMemory) ⌝ }
+{
+    match Vec::from_slice(heap, rows) {
+        Ok(copy) => Ok(copy),
+        Err(_) => Err(ShapeRefusal::NoMemory),
+    }
 }
 
 impl LinkedShape {
@@ -37,9 +50,7 @@ impl LinkedShape {
     pub fn new(heap: Global) -> Result<LinkedShape, ShapeRefusal>
         ensures { λ r. ⌜ One-node r ⌝ }
     {
-        let Ok(rows) = Vec::from_slice(heap, &[NO_LINKS]) else {
-            return Err(ShapeRefusal::NoMemory);
-        };
+        let rows = copied(heap, &[NO_LINKS])?;
         Ok(LinkedShape { rows })
     }
 
@@ -50,16 +61,11 @@ impl LinkedShape {
         if !is_countable(rows.len()) {
             return Err(ShapeRefusal::NodeCount);
         }
-        let Ok(lawful) = is_lawful(heap, rows) else {
-            return Err(ShapeRefusal::NoMemory);
-        };
+        let lawful = is_lawful(heap, rows)?;
         if !lawful {
             return Err(ShapeRefusal::BrokenLinks);
         }
-        let Ok(copy) = Vec::from_slice(heap, rows) else {
-            return Err(ShapeRefusal::NoMemory);
-        };
-        self.rows = copy;
+        self.rows = copied(heap, rows)?;
         Ok(())
     }
 }
