@@ -8,7 +8,7 @@ use native.Mathlib.Omega.{arith}
 use lib.Dec.{eqb, ltb}
 use lib.ListN.{length, getD}
 use Rattle.std.proofs.shelf.Lists.{getD-past}
-use Rattle.std.proofs.shelf.Tests.{and-parts, and-from, cases-eq, cases-lt, cond-true, cond-false, eqb-true, eq-eqb, ne-eqb, lt-ltb, ltb-true}
+use Rattle.std.proofs.shelf.Tests.{and-parts, and-from, both-ways, cases-eq, cases-lt, cond-true, cond-false, eqb-true, eq-eqb, ne-eqb, lt-ltb, ltb-true}
 use Rattle.std.specs.Options.{isSome}
 use Rattle.std.specs.Orderings.{Decides}
 use Rattle.std.specs.declared.option.Option.{Option}
@@ -16,10 +16,10 @@ use Rattle.std.specs.declared.option.Option.the-variants.{None, Some}
 use Rattle.shapes.specs.declared.axis.Axis.{Axis}
 use Rattle.shapes.specs.declared.axis.Axis.the-variants.{First, Next, Owner, Previous}
 use Rattle.shapes.specs.declared.links.Links.{Links}
-use Rattle.shapes.specs.Certified.{is-node, answered, answered-at, all-answered, rises, both-rise, root-alone, one-entry, entered, certified, Certified}
+use Rattle.shapes.specs.Certified.{is-node, answered, answered-at, all-answered, rises, both-rise, root-alone, one-entry, entered, certified, Certified, Verdict}
 use Rattle.shapes.specs.Levels.{levels-of}
 use Rattle.shapes.specs.Links.{link, no-links, linked-tree}
-use Rattle.shapes.specs.Tree.{Tree, Laws, Countable, Same-tree, Either-one, Present, along, back}
+use Rattle.shapes.specs.Tree.{Tree, Laws, Countable, Either-one, Present, along, back}
 use Rattle.shapes.proofs.Reaching.{all-levels}
 
 none-some : (o : Option ℕ) (y : ℕ) → o ≡ None → o ≡ Some y → ⊥
@@ -162,14 +162,12 @@ module _ (rows : List Links) (countable : Countable (length rows)) where
   pub table-lawful : Laws (linked-tree rows) → Certified rows
   table-lawful laws = tests-from-laws (linked-tree rows) laws (λ y. getD (levels-of rows) y 0) (all-levels rows (countable .1) laws)
 
--- equal tables tell the same tree
-pub same-table : (xs ys : List Links) → xs ≡ ys → Same-tree (linked-tree xs) (linked-tree ys)
-same-table xs ys e = record { count = ap length e; maps = λ a x. ap (λ rows. along (linked-tree rows) a x) e }
-
 pub one-node : Certified (no-links ∷ [])
 unfolding levels-of
 one-node x h = let root : x ≡ 0 = omega arith in rw root refl
 
--- the verdict at levels that are those of the table
-pub verdict : (rows : List Links) (levels : List ℕ) (b : Bool) → levels ≡ levels-of rows → Decides b ((x : ℕ) → x < length rows → certified (linked-tree rows) (λ y. getD levels y 0) x ≡ true) → Decides b (Certified rows)
-verdict rows levels b e d = subst (λ ls. Decides b ((x : ℕ) → x < length rows → certified (linked-tree rows) (λ y. getD ls y 0) x ≡ true)) e d
+-- the verdict by a test at levels that are those of the table
+pub verdict : (rows : List Links) (levels : List ℕ) (b : Bool) → Countable (length rows) → levels ≡ levels-of rows → Decides b ((x : ℕ) → x < length rows → certified (linked-tree rows) (λ y. getD levels y 0) x ≡ true) → Verdict rows b
+verdict rows levels b countable e d =
+    let all : Decides b (Certified rows) = subst (λ ls. Decides b ((x : ℕ) → x < length rows → certified (linked-tree rows) (λ y. getD ls y 0) x ≡ true)) e d in
+    (λ yes′. (all .0 yes′, lawful-table rows countable (all .0 yes′)), λ no′ laws. both-ways b no′ (all .1 (table-lawful rows countable laws)))

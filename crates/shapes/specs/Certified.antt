@@ -13,7 +13,7 @@ use Rattle.shapes.specs.declared.axis.Axis.the-variants.{First, Next, Owner, P
 use Rattle.shapes.specs.declared.links.Links.{Links}
 use Rattle.shapes.specs.Levels.{levels-of}
 use Rattle.shapes.specs.Links.{linked-tree}
-use Rattle.shapes.specs.Tree.{Tree, along, back}
+use Rattle.shapes.specs.Tree.{Tree, Laws, along, back}
 
 abbrev pub is-node : Option ℕ → ℕ → Bool
 is-node None x = false
@@ -55,3 +55,7 @@ certified t level x = all-answered t x && (both-rise t level x && entered t leve
 -- every node of the table passes, at the levels that the table tells
 abbrev pub Certified : List Links → Type 0
 Certified rows = (x : ℕ) → x < length rows → certified (linked-tree rows) (λ y. getD (levels-of rows) y 0) x ≡ true
+
+-- what the answer to all the tests tells
+abbrev pub Verdict : List Links → Bool → Type 0
+Verdict rows b = (b ≡ true → Certified rows × Laws (linked-tree rows)) × (b ≡ false → Laws (linked-tree rows) → ⊥)

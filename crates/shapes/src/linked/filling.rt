@@ -1,11 +1,10 @@
 //! Making and filling a linked shape.
 ghost use mathlib.Core.Path.{_≡_};
-ghost use Prim.Native.Nat.{_≤_};
 ghost use lib.ListN.{length};
 ghost use Rattle.std.specs.Of.Vec.{vec-items};
 ghost use Rattle.std.specs.Orderings.{Decides};
 ghost use Rattle.std.specs.Results.{Cases};
-ghost use Rattle.shapes.specs.Certified.{Certified};
+ghost use Rattle.shapes.specs.Certified.{Verdict};
 ghost use Rattle.shapes.specs.LinkedShapes.{One-node, Fill-outcome};
 ghost use Rattle.shapes.specs.Tree.{Countable};
 ghost use Rattle.shapes.specs.declared.refusal.ShapeRefusal.the-variants.{NoMemory};
@@ -27,13 +26,13 @@ fn is_countable(count: usize) -> bool
 
 /// Whether a table obeys the laws of trees.
 fn is_lawful(heap: Global, rows: &[Links]) -> Result<bool, ShapeRefusal>
-    requires { ⌜ length (now rows) ≤ 2048 ⌝ }
-    ensures { λ r. ⌜ Cases r (λ b. Decides b (Certified (now (rows .entry)))) (λ e. e ≡ NoMemory) ⌝ }
+    requires { ⌜ Countable (length (now rows)) ⌝ }
+    ensures { λ r. ⌜ Cases r (Verdict (now (rows .entry))) (λ e. e ≡ NoMemory) ⌝ }
 {
-    match levels_of(heap, rows) {
-        Ok(levels) => Ok(all_certified(rows, &levels)),
-        Err(_) => Err(ShapeRefusal::NoMemory),
-    }
+    let Ok(levels) = levels_of(heap, rows) else {
+        return Err(ShapeRefusal::NoMemory);
+    };
+    Ok(all_certified(rows, &levels))
 }
 
 fn copied(heap: Global, rows: &[Links]) -> Result<Vec<Links>, ShapeRefusal>
