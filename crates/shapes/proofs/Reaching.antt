@@ -1,6 +1,6 @@
 -- The breadth-first search of a lawful table gives every node its level.
 use mathlib.Core.Path.{_≡_, refl, sym, ap, ap₂, subst, _∙_}
-use mathlib.Core.Bool.{true, cond}
+use mathlib.Core.Bool.{cond}
 use mathlib.Core.Logic.{_⊎_, inl, inr, ⊎-elim}
 use mathlib.Core.List.{List, [], _∷_, _++_}
 use Prim.Native.Nat.{ℕ, zero, suc, _+_, _<_, _≤_}
@@ -12,13 +12,12 @@ use Rattle.std.specs.shelf.Lists.{countBy}
 use Rattle.std.proofs.shelf.Lists.{getD-set-same, getD-set-other, getD-append-left, getD-push, getD-past, getD-replicate, length-set, length-push, length-replicate}
 use Rattle.std.proofs.shelf.Sums.{sumBy-set, sumBy-cons}
 use Rattle.std.proofs.shelf.Tests.{cond-both, cond-true, cond-false, cases-eq, cases-lt, eqb-true, eqb-false, eq-eqb, ne-eqb, lt-ltb, le-ltb, ltb-true, ltb-false}
-use Rattle.std.specs.declared.option.Option.{Option}
 use Rattle.std.specs.declared.option.Option.the-variants.{None, Some}
-use Rattle.shapes.specs.declared.axis.Axis.the-variants.{First, Next, Owner, Previous}
+use Rattle.shapes.specs.declared.axis.Axis.the-variants.{Owner, Previous}
 use Rattle.shapes.specs.declared.links.Links.{Links}
 use Rattle.shapes.specs.Levels.{Reached, untouched, with-node, reach, node-at, level-below, reach-both, visit, visited, levels-of}
 use Rattle.shapes.specs.Links.{link, no-links, linked-tree}
-use Rattle.shapes.specs.Tree.{Tree, Laws}
+use Rattle.shapes.specs.Tree.{Laws}
 
 -- whether the search has reached a node
 abbrev Unknown : Reached → ℕ → Type 0

@@ -4,6 +4,8 @@ use mathlib.Core.List.{List, [], _∷_, _++_}
 use Prim.Native.Nat.{ℕ, zero, suc, _+_}
 use lib.Dec.{eqb, ltb}
 use lib.ListN.{length, getD, set, replicate}
+use Rattle.std.specs.Of.Vec.{vec-items}
+use Rattle.shapes.specs.declared.levels.Search.{Search}
 use Rattle.shapes.specs.declared.links.Links.{Links}
 use Rattle.shapes.specs.Links.{no-links}
 
@@ -11,6 +13,9 @@ use Rattle.shapes.specs.Links.{no-links}
 pub record Reached : Type 0 where
   pub levels : List ℕ
   pub order : List ℕ
+
+abbrev pub reached : Search → Reached
+reached s = record { levels = vec-items (s .levels); order = vec-items (s .order) }
 
 abbrev pub untouched : ℕ → Reached
 untouched n = record { levels = replicate n 65535; order = [] }

@@ -1,5 +1,5 @@
 use native.Mathlib.Omega.{arith}
-use Rattle.shapes.specs.Searches.{reached}
+use Rattle.shapes.specs.Levels.{reached}
 use Rattle.shapes.proofs.Reaching.{visited-more, visited-all}
 use Rattle.shapes.proofs.levels.levels_of.Needs as need
 

@@ -1,6 +1,6 @@
 use mathlib.Core.Path.{_≡_}
 use Rattle.shapes.specs.Levels.{visited}
-use Rattle.shapes.specs.Searches.{reached}
+use Rattle.shapes.specs.Levels.{reached}
 use Rattle.shapes.proofs.levels.levels_of.Given as given
 
 abbrev pub Inv-loop-place : given.InvT-loop-place

@@ -1,8 +1,7 @@
-use Prim.Native.Nat.{_<_}
 use mathlib.Core.Path.{_≡_}
 use native.Mathlib.Omega.{arith}
 use borrow.Author.Needs.{needs}
-use lib.ListN.{length, getD}
+use lib.ListN.{getD}
 use Rattle.std.specs.Of.Vec.{vec-items}
 use Rattle.shapes.proofs.Reaching.{unknown-inside}
 use Rattle.shapes.proofs.levels.Search.reach.Needs as need

@@ -5,7 +5,7 @@ use borrow.Author.Needs.{needs}
 use lib.ListN.{length}
 use Rattle.std.specs.Of.Vec.{vec-items}
 use Rattle.shapes.specs.Levels.{level-below}
-use Rattle.shapes.specs.Searches.{reached}
+use Rattle.shapes.specs.Levels.{reached}
 use Rattle.shapes.proofs.Reaching.{placed, visit-steps, visit-past}
 use Rattle.shapes.proofs.levels.Search.visit.Needs as need
 
