@@ -9,6 +9,5 @@ pub mod Links
 pub mod Mirrored
 pub mod Mirrors
 pub mod Refusals
-pub mod Searches
 pub mod Shapes
 pub mod Tree

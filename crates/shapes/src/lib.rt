@@ -2,6 +2,7 @@
 pub mod address;
 pub mod axis;
 mod certified;
+mod count;
 pub mod depth;
 mod levels;
 pub mod linked;

@@ -8,6 +8,7 @@ ghost use lib.ListN.{length};
 ghost use mathlib.Core.List.{[], _∷_};
 ghost use mathlib.Core.Path.{_≡_};
 ghost use Rattle.shapes.specs.declared.refusal.ShapeRefusal.the-variants.{NoMemory};
+use crate::count::is_countable;
 use crate::depth::DepthShape;
 use crate::depth::rule::first_fault;
 use crate::depth::siblings::previous_siblings;
@@ -15,8 +16,6 @@ use crate::depth::siblings::reversed;
 use crate::refusal::ShapeRefusal;
 use std::alloc::AllocError;
 use std::alloc::Global;
-
-const MOST_NODES: usize = 2048;
 
 impl DepthShape {
     /// A single node.
@@ -38,7 +37,7 @@ impl DepthShape {
     fn of_depths(heap: Global, depths: &[u16]) -> Result<DepthShape, ShapeRefusal>
         ensures { λ r. ⌜ Cases r (Has-depths (now (depths .entry))) (Depths-refused (now (depths .entry))) ⌝ }
     {
-        if depths.is_empty() || depths.len() > MOST_NODES {
+        if !is_countable(depths.len()) {
             return Err(ShapeRefusal::NodeCount);
         }
         if let Some(node) = first_fault(depths) {

@@ -2,27 +2,19 @@
 ghost use mathlib.Core.Path.{_≡_};
 ghost use lib.ListN.{length};
 ghost use Rattle.std.specs.Of.Vec.{vec-items};
-ghost use Rattle.std.specs.Orderings.{Decides};
 ghost use Rattle.std.specs.Results.{Cases};
 ghost use Rattle.shapes.specs.Certified.{Verdict};
 ghost use Rattle.shapes.specs.LinkedShapes.{One-node, Fill-outcome};
 ghost use Rattle.shapes.specs.Tree.{Countable};
 ghost use Rattle.shapes.specs.declared.refusal.ShapeRefusal.the-variants.{NoMemory};
 use crate::certified::all_certified;
+use crate::count::is_countable;
 use crate::levels::levels_of;
 use crate::linked::LinkedShape;
 use crate::links::Links;
 use crate::refusal::ShapeRefusal;
 use crate::table::NO_LINKS;
 use std::alloc::Global;
-
-const MOST_NODES: usize = 2048;
-
-fn is_countable(count: usize) -> bool
-    ensures { λ r. ⌜ Decides r (Countable count) ⌝ }
-{
-    1 <= count && count <= MOST_NODES
-}
 
 /// Whether a table obeys the laws of trees.
 fn is_lawful(heap: Global, rows: &[Links]) -> Result<bool, ShapeRefusal>
