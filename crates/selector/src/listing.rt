@@ -1,6 +1,6 @@
 //! The listing of a shape's neighbours, as listed and mirrored.
 use shapes::depth::DepthShape;
-use shapes::depth::neighbours::DepthShapes;
+use shapes::depth::DepthShapes;
 use shapes::mirrored::Mirrored;
 use shapes::mirrored::MirroredShapes;
 use shapes::shape::Shape;
