@@ -90,3 +90,26 @@ pub fn grade_of<G: Grade, S: Shape>(
         Term::Highest => Some(G::highest()),
     }
 }
+
+#[cfg(test)]
+mod tests {
+    use super::*;
+    use grades::yes_no::YesNo;
+    use shapes::axis::Axis;
+    use shapes::depth::DepthShape;
+    use shapes::depth::neighbours::DepthShapes;
+    use shapes::refusal::ShapeRefusalDebug;
+    use std::test::*;
+
+    // A root with two children, and a row of values with yes at the second.
+    #[test]
+    fn to_the_right(rt: LibcRuntime) -> Result<(), Fail> {
+        let mut shape = DepthShape::new(rt.alloc())?;
+        shape.fill(rt.alloc(), &[0, 1, 1])?;
+        let values = [false, false, true];
+        let right = Term::SomeNeighbour(Axis::Next, 0);
+        check_eq(grade_of(&shape, right, 1, &[], &values), Some(true))?;
+        check_eq(grade_of(&shape, right, 2, &[], &values), Some(false))?;
+        check_eq(grade_of(&shape, Term::Turn(1), 0, &[], &values), None)
+    }
+}
