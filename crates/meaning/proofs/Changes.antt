@@ -13,7 +13,7 @@ use Rattle.meaning.proofs.Better.{better-equal, better-trans, better-start}
 use Rattle.meaning.proofs.Monotone.{Lawful, Ordered, grades-ordered}
 use Rattle.meaning.proofs.Agreement.{agree-trans}
 
--- every entry of block b is better than the grade of its kind, or the same
+-- every entry of block b is better than the grade that its term gives, or the same
 abbrev pub Rising : {G : Type 0} → Kind G → Tree → Table → Grades G → ℕ → Grades G → Type 0
 Rising k t q marks b v = (i x : ℕ) → Entry q t b i x → Better k (direction q i) (v i x) (grade-of k t marks v (term-at q i) x)
 
@@ -21,7 +21,7 @@ Rising k t q marks b v = (i x : ℕ) → Entry q t b i x → Better k (direction
 abbrev pub Towards : {G : Type 0} → Kind G → Tree → Table → Grades G → ℕ → Grades G → Type 0
 Towards {G} k t q marks b v = (w : Grades G) → Agree-before t q b v w → Solves k t q marks b w → Ordered k t q b v w
 
--- entry (j, y) takes the grade of its kind, all else stays
+-- entry (j, y) takes the grade that its term gives, all else stays
 pub record Changes {G : Type 0} (k : Kind G) (t : Tree) (q : Table) (marks : Grades G) (j y : ℕ) (v v′ : Grades G) : Type 0 where
   pub takes : v′ j y ≡ grade-of k t marks v (term-at q j) y
   pub others : (i x : ℕ) → ((i ≡ j) × (x ≡ y) → ⊥) → v′ i x ≡ v i x
@@ -43,7 +43,7 @@ pub towards-best : {G : Type 0} {k : Kind G} {t : Tree} {q : Table} (marks : Gra
 towards-best marks b v towards solves = record { solves = solves; best = towards }
 
 module _ {G : Type 0} {k : Kind G} {t : Tree} {q : Table} (lawful : Lawful k t q) (marks : Grades G) (b : ℕ) (v : Grades G) where
-  -- a block at its start rises, and is better than every solution
+  -- a block at its start values rises, and is better than every solution
   pub start-rising : ((i x : ℕ) → Entry q t b i x → v i x ≡ start k (direction q i)) → Rising k t q marks b v
   start-rising at i x e = subst (λ g. Better k (direction q i) g (grade-of k t marks v (term-at q i) x)) (sym (at i x e)) (better-start (lawful .kind) (direction q i) _)
 

@@ -1,4 +1,4 @@
--- What a term's kind gives is monotone in what the term reads.
+-- What a term gives is monotone in what it reads.
 use mathlib.Core.Path.{_≡_, refl, sym, _∙_, subst}
 use Prim.Native.Nat.{ℕ, _<_}
 use native.Mathlib.Decide.{ℕ-discrete}
@@ -44,7 +44,7 @@ at-or-better : {G : Type 0} {k : Kind G} → KindLaws k → (d : Solution) (none
 at-or-better laws d none v w None h = better-refl laws d none
 at-or-better laws d none v w (Some y) h = h y refl
 
--- where the operands better, so does the term
+-- where what it reads is better, so is what a term gives
 pub grade-better : {G : Type 0} {k : Kind G} → KindLaws k → (t : Tree) (marks v w : Grades G) (d : Solution) (m : Term) (x : ℕ) → ((j y : ℕ) → Reading t m x j y → Better k (under m d) (v j y) (w j y)) → Better k d (grade-of k t marks v m x) (grade-of k t marks w m x)
 grade-better laws t marks v w d (Mark a) x h = better-refl laws d _
 grade-better laws t marks v w d (Turn a) x h = better-turned laws d _ _ (h a x (turned a x))
@@ -65,7 +65,7 @@ Is-turn (EveryNeighbour x a) = ⊥
 Is-turn Lowest = ⊥
 Is-turn Highest = ⊥
 
--- within a block an entry that is read goes the way that its reader wants
+-- within a block an entry that is read has the direction that its reader needs
 module _ {q : Table} (dir : Directed q) (i : ℕ) (stands : i < length (q .terms)) where
   like : (m : Term) → term-at q i ≡ m → (Is-turn m → ⊥) → (j : ℕ) → Reads m j → block-of q j ≡ block-of q i → direction q j ≡ direction q i
   like m e steady j r = dir .others-like i j stands (subst (λ n. Reads n j) (sym e) r) (λ a e′. steady (subst Is-turn (sym e′ ∙ e) tt))

@@ -62,7 +62,7 @@ module _ {t : Tree} (nodes : TreeLaws t) (q : Table) (labels : Grades Bool) (b :
       subst (λ c. Better yes-no (solution-at q c) (v i (z .number)) (grades-of t σ i (z .number))) (d .dealt-here) (best .best (grades-of t σ) (grades .0) (grades .1) i (z .number) (entry d z)))
       over
 
--- sets that agree on the earlier blocks have the same assigned
+-- over sets that agree on the earlier blocks the same is assigned
 module _ (t : Tree) (q : Table) (labels : Sets t) (b : ℕ) (ρ σ : Sets t) (same : (c i : ℕ) → c < b → Defined-in q c i → (z : Node t) → ρ i z ≡ σ i z) where
   solution-same : (τ : Sets t) → Solution-over t q labels b ρ τ → Solution-over t q labels b σ τ
   solution-same τ over = record { earlier = λ c i h d z. sym (same c i h d z) ∙ over .earlier c i h d z; defined = over .defined }

@@ -57,7 +57,7 @@ module _ {G : Type 0} {k : Kind G} (laws : KindLaws k) where
       let at-0 : v 1 0 ≡ k .lowest = here 0 (lit< tt) ∙ (ap₂ (k .joined) (mark-at 0 (lit< tt)) (value blocks (lit< tt) 2 0 (lit< tt) refl (lit< tt)) ∙ join-same (k .lowest)) in
       (at-0, at-1, at-2)
 
-  -- two values that solve the cycle
+  -- a grade where the cycle closes, lowest elsewhere: it solves the cycle
   closed : G → Grades G
   closed g i x = cond (eqb i x) g (k .lowest)
 
