@@ -1,0 +1,6 @@
+pub mod Calls
+pub mod Places
+pub mod Promise
+pub mod Readings
+pub mod Refusals
+pub mod Rules

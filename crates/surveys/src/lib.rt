@@ -1,0 +1,2 @@
+//! Surveys: the rows of a query, kept up to date while marks change.
+pub mod refusal;
