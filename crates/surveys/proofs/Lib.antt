@@ -5,3 +5,7 @@ pub mod Listed
 pub mod Readings
 pub mod Ready
 pub mod Taken
+pub mod Sound
+pub mod Stepped
+pub mod Retagged
+pub mod Keys
