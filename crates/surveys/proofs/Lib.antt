@@ -9,3 +9,7 @@ pub mod Sound
 pub mod Stepped
 pub mod Retagged
 pub mod Keys
+pub mod Courses
+pub mod Reaching
+pub mod ReachedTimes
+pub mod Lasting
