@@ -13,3 +13,7 @@ pub mod Courses
 pub mod Reaching
 pub mod ReachedTimes
 pub mod Lasting
+pub mod Marks
+pub mod Entries
+pub mod Possible
+pub mod Answered
