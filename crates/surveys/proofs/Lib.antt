@@ -17,3 +17,7 @@ pub mod Marks
 pub mod Entries
 pub mod Possible
 pub mod Answered
+pub mod Sameness
+pub mod SameSteps
+pub mod SameRetags
+pub mod Outcomes
