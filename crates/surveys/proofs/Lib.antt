@@ -21,3 +21,8 @@ pub mod Sameness
 pub mod SameSteps
 pub mod SameRetags
 pub mod Outcomes
+pub mod Sums
+pub mod Room
+pub mod BlockSizes
+pub mod Left
+pub mod StepsLeft
