@@ -26,3 +26,7 @@ pub mod Room
 pub mod BlockSizes
 pub mod Left
 pub mod StepsLeft
+pub mod FewSteps
+pub mod Accepted
+pub mod Promises
+pub mod Rows

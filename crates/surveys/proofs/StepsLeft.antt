@@ -12,7 +12,7 @@ use Rattle.std.specs.declared.option.Option.{Option}
 use Rattle.std.specs.declared.option.Option.the-variants.{None, Some}
 use Rattle.queries.specs.Table.{Reaches}
 use Rattle.surveys.specs.Places.{Place}
-use Rattle.surveys.specs.Rules.{Opening, State, Works-on, Steps, Retags}
+use Rattle.surveys.specs.Rules.{Opening, State, Works-on, Steps, Retags, opened}
 use Rattle.surveys.proofs.Decisions.{empty?, fails, left-passes, option?, passes?, none-some}
 use Rattle.surveys.proofs.Left.{left-in, all-of, left-begins, left-stays, left-falls}
 use Rattle.surveys.proofs.Readings.{Accepted}
@@ -49,6 +49,9 @@ module _ {G : Type 0} (o : Opening G) (s : State G) (b : ℕ) where
       go : (w : Option ℕ) → s .current ≡ w → left-stale o s b w ≡ all-of o b
       go None e = refl
       go (Some c) e = cond-false (eqb c b) _ _ (ne-eqb c b (λ same. idle (e ∙ ap Some same)))
+
+pub left-opened : {G : Type 0} (o : Opening G) (b : ℕ) → steps-left o (opened o) b ≡ all-of o b
+left-opened o b = left-elsewhere o (opened o) b refl (none-some refl)
 
 -- the block that a step works on has at least what its queue leaves
 works-left : {G : Type 0} (o : Opening G) → Accepted o → (s : State G) → Sound o s → {b : ℕ} {queue : List Place} → Works-on o s b queue → left-in o (s .values) b queue ≤ steps-left o s b
