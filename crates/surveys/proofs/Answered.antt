@@ -1,5 +1,5 @@
 -- Every call has an answer in every sound state.
-use mathlib.Core.Path.{_≡_, refl}
+use mathlib.Core.Path.{_≡_, refl, ap}
 use mathlib.Core.Logic.{_⊎_, inl, inr}
 use mathlib.Core.Bool.{Bool, true, false}
 use mathlib.Core.List.{List, [], _∷_}
@@ -15,7 +15,9 @@ use Rattle.queries.specs.Table.{block-of}
 use Rattle.surveys.specs.declared.refusal.SurveyRefusal.the-variants.{NotInSurvey, NotSettled, AllSettled}
 use Rattle.surveys.specs.Places.{Place}
 use Rattle.surveys.specs.Rules.{Opening, State, Works-on, Steps, Makes, All-settled}
-use Rattle.surveys.specs.Calls.{Call, Answer, Does}
+use Rattle.surveys.specs.Calls.{Call, Answer, Calls, Does, Course}
+use Rattle.surveys.specs.Promise.{asked}
+use Rattle.surveys.proofs.Courses.{sound-does}
 use Rattle.surveys.proofs.Decisions.{grade?, fails-not}
 use Rattle.surveys.proofs.Entries.{entries, queued, some-entry}
 use Rattle.surveys.proofs.Possible.{some-step, some-retag}
@@ -97,3 +99,11 @@ module _ {G : Type 0} (o : Opening G) (f : Accepted o) where
       go : r < length (o .query .terms) → (v : Bool) → s .settled (block-of (o .query) r) ≡ v → (v : Answer G) × ((s′ : State G) × Does o s (Call.read r) v s′)
       go h true e = (Answer.row (s .values r), (s, Does.reads r (s .values r) h (rw e tt) (λ x n. refl)))
       go h false e = (Answer.refused NotSettled, (s, Does.not-settled r h e))
+
+  -- so has every list of calls
+  pub course-for : (calls : List (Call G)) (s : State G) → Sound o s → (past : Calls G) × ((s′ : State G) × ((asked past ≡ calls) × Course o s past s′))
+  course-for [] s sound = ([], (s, (refl, Course.empty s)))
+  course-for (c ∷ calls) s sound =
+      let here = answered s sound c in
+      let more = course-for calls (here .1 .0) (sound-does o f (here .1 .1) sound) in
+      ((c, here .0) ∷ more .0, (more .1 .0, (ap (λ cs. c ∷ cs) (more .1 .1 .0), Course.then s (here .1 .0) (more .1 .0) c (here .0) (more .0) (here .1 .1) (more .1 .1 .1))))

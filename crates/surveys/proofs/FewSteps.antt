@@ -1,5 +1,5 @@
 -- The steps of a list of calls are few: nodes × (1 + 2 × height) for each term, once for opening and once for each time that its block was reached.
-use mathlib.Core.Path.{_≡_, refl, sym, _∙_, ap}
+use mathlib.Core.Path.{_≡_, sym, _∙_, ap}
 use mathlib.Core.Logic.{inl, inr}
 use mathlib.Core.Bool.{true}
 use mathlib.Core.List.{_∷_}
@@ -52,15 +52,15 @@ module _ {G : Type 0} (o : Opening G) (f : Accepted o) where
   abbrev Counts : State G → State G → Calls G → ℕ → (ℕ → ℕ) → Type 0
   Counts s s′ more n times = (times′ : ℕ → ℕ) × (Reached-each more times′ × (n + to-go s′ times′ ≤ to-go s times))
 
-  module _ (s s′ : State G) (sound : Sound o s) (more : Calls G) (times : ℕ → ℕ) where
+  module _ (s s′ : State G) (more : Calls G) (times : ℕ → ℕ) where
     -- of one block, with n more reaches to come
     abbrev Block-counts : ℕ → ℕ → Type 0
     Block-counts b n = Reached-times (o .query) b more n × (steps-left o s′ b + all-of o b * n ≤ steps-left o s b + all-of o b * times b)
 
     retag-block : (x a : ℕ) (g : G) → Retags o a x g s s′ → (b : ℕ) → Reached-times (o .query) b ((retag x a g, altered true) ∷ more) (times b) → (n : ℕ) × Block-counts b n
     retag-block x a g r b here = elim (times-altered here) [
-      | inl z ↦ (z .0, (z .1 .1 .1, omega (arith, retag-renews o f a x g s s′ sound r b (z .1 .1 .0), ap (λ n. all-of o b * n) (z .1 .0), mul-suc (all-of o b) (z .0))))
-      | inr z ↦ (times b, (z .1, omega (arith, retag-leaves o f a x g s s′ sound r b (z .0))))
+      | inl z ↦ (z .0, (z .1 .1 .1, omega (arith, retag-renews o f a x g s s′ r b (z .1 .1 .0), ap (λ n. all-of o b * n) (z .1 .0), mul-suc (all-of o b) (z .0))))
+      | inr z ↦ (times b, (z .1, omega (arith, retag-leaves o f a x g s s′ r b (z .0))))
     ]
 
     retag-counts : (x a : ℕ) (g : G) → Retags o a x g s s′ → Reached-each ((retag x a g, altered true) ∷ more) times → Counts s s′ more 0 times
@@ -72,7 +72,7 @@ module _ {G : Type 0} (o : Opening G) (f : Accepted o) where
         ((λ b. counts b .0), ((λ b l. counts b .1 l .0), omega (arith, sum-mono blocks (λ b. steps-left o s′ b + all-of o b * counts b .0) (λ b. steps-left o s b + all-of o b * times b) (λ b l. counts b .1 l .1))))
 
   does-counts : (s s′ : State G) → Sound o s → (more : Calls G) (times : ℕ → ℕ) {c : Call G} {v : Answer G} → Does o s c v s′ → Reached-each ((c, v) ∷ more) times → Counts s s′ more (made v) times
-  does-counts s s′ sound more times (Does.retags x a g _ node tag r) each = retag-counts s s′ sound more times x a g r each
+  does-counts s s′ sound more times (Does.retags x a g _ node tag r) each = retag-counts s s′ more times x a g r each
   does-counts s s′ sound more times (Does.leaves x a g node tag is) each = (times, ((λ b l. times-other (λ h. h) (each b l)), omega arith))
   does-counts s s′ sound more times (Does.no-such-mark x a g out) each = (times, ((λ b l. times-other (λ h. h) (each b l)), omega arith))
   does-counts s s′ sound more times (Does.steps all _ st says) each = (times, ((λ b l. times-other (λ h. h) (each b l)), step-counts s s′ sound st times))

@@ -1,7 +1,7 @@
 -- How many steps a block can still make: its queue, and how far the entries that its entries read can still move.
-use mathlib.Core.Path.{_≡_, refl, sym, _∙_, ap, subst}
-use mathlib.Core.Logic.{_⊎_, inl, inr}
-use mathlib.Core.List.{List, _∷_, _++_}
+use mathlib.Core.Path.{_≡_, _∙_, ap}
+use mathlib.Core.Logic.{inl, inr}
+use mathlib.Core.List.{List, _∷_}
 use Prim.Native.Nat.{ℕ, _+_, _*_, _<_, _≤_}
 use native.Mathlib.Decide.{ℕ-discrete}
 use native.Mathlib.Nat.{mul-add, mul-one, mul-le-mul-right, mul-comm, mul-assoc}
@@ -15,7 +15,7 @@ use Rattle.queries.specs.Table.{term-at, block-of, blocks-terms, direction}
 use Rattle.meaning.specs.Readings.{Reading}
 use Rattle.meaning.specs.Solutions.{Grades}
 use Rattle.meaning.proofs.Better.{better-equal}
-use Rattle.meaning.proofs.Readings.{reading-node, read-stands}
+use Rattle.meaning.proofs.Readings.{read-stands}
 use Rattle.surveys.specs.Places.{Place, In, Lists}
 use Rattle.surveys.specs.Rules.{Opening, State, Entry-of, Steps}
 use Rattle.surveys.proofs.BlockSizes.{few-entries}
@@ -74,7 +74,7 @@ module _ {G : Type 0} (o : Opening G) (f : Accepted o) where
           let stands = read-stands (f .tree) (f .admitted) e r in
           let agree : v j z ≡ w j z = elim (ℕ-discrete (block-of (o .query) j) b) [
             | yes here ↦ own j z (record { term = stands .term; dealt-here = here; node = stands .node })
-            | no other ↦ read j z (reads-term o f b (p .0) (p .1) j z e r) other (stands .node)
+            | no other ↦ read j z (reads-term e r) other (stands .node)
           ] in
           omega (arith, ap (room (o .kind) (direction (o .query) j)) agree)
 

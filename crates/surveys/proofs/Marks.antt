@@ -6,10 +6,11 @@ use Prim.Native.Nat.{ℕ, _<_}
 use native.Mathlib.Omega.{arith}
 use lib.Dec.{eqb}
 use Rattle.std.proofs.shelf.Tests.{cond-true, cond-false, eq-eqb, ne-eqb, and-from, and-left, and-right, cases-eq}
-use Rattle.meaning.specs.Solutions.{Grades}
+use Rattle.meaning.specs.Solutions.{Grades, Solves, Blockwise}
 use Rattle.surveys.specs.Rules.{Opening, State, Makes, Retags}
 use Rattle.surveys.specs.Calls.{Call, Answer, Calls, Does, Course, with-mark, marked, marks-after}
 use Rattle.surveys.proofs.Decisions.{place?}
+use Rattle.surveys.proofs.Readings.{Accepted, read-tag, given-same}
 
 module _ {G : Type 0} (m : Grades G) (a x : ℕ) (g : G) where
   mark-set : (b y : ℕ) → (b ≡ a) × (y ≡ x) → with-mark m a x g b y ≡ g
@@ -57,3 +58,13 @@ module _ {G : Type 0} (o : Opening G) where
   pub marks-course : {s s′ : State G} {past : Calls G} → Course o s past s′ → (m : Grades G) → Same-marks o (s .marks) m → Same-marks o (s′ .marks) (marks-after m past)
   marks-course (Course.empty s) m same = same
   marks-course (Course.then s s′ s″ c v more does rest) m same = marks-course rest (marked m c) (marks-does does m same)
+
+  -- what solves a query goes by the marks of the survey alone
+  solves-marks : Accepted o → (b : ℕ) (m m′ v : Grades G) → Same-marks o m m′ → Solves (o .kind) (o .tree) (o .query) m b v → Solves (o .kind) (o .tree) (o .query) m′ b v
+  solves-marks f b m m′ v same solves i x e = solves i x e ∙ given-same o f b m m′ v v (λ a y reads n. same a y (read-tag o f b a reads) n) (λ j y e. refl) (λ j y reads other n. refl) i x e
+
+  pub blockwise-marks : Accepted o → (m m′ v : Grades G) → Same-marks o m m′ → Blockwise (o .kind) (o .tree) (o .query) m v → Blockwise (o .kind) (o .tree) (o .query) m′ v
+  blockwise-marks f m m′ v same blockwise b stands = record {
+    solves = solves-marks f b m m′ v same (blockwise b stands .solves);
+    best = λ w before solves. blockwise b stands .best w before (solves-marks f b m′ m w (λ a x h n. sym (same a x h n)) solves);
+  }

@@ -1,7 +1,6 @@
 -- A call has one outcome, and so has every list of calls.
 use mathlib.Core.Path.{_≡_, refl, sym, _∙_, subst, subst₂}
-use mathlib.Core.List.{List, [], _∷_}
-use Prim.Native.Nat.{ℕ}
+use mathlib.Core.List.{_∷_}
 use native.Mathlib.Omega.{arith}
 use Rattle.queries.specs.Table.{block-of}
 use Rattle.surveys.specs.Calls.{Call, Answer, Calls, Does, Course}

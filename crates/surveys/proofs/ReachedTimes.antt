@@ -1,11 +1,10 @@
 -- How often a block was reached: every list of calls has a number of times, and one only.
 use mathlib.Core.Path.{_≡_, refl, sym, _∙_, ap}
 use mathlib.Core.Logic.{_⊎_, inl, inr}
-use mathlib.Core.Bool.{true, false}
+use mathlib.Core.Bool.{true}
 use mathlib.Core.List.{_∷_}
 use Prim.Native.Nat.{ℕ, suc}
 use native.Mathlib.Omega.{arith}
-use lib.Dec.{T}
 use Rattle.queries.specs.Table.{Table, Admitted, Reaches}
 use Rattle.surveys.specs.Calls.{Call, Answer, Calls, Does, Course, Reached-times, Altered}
 use Rattle.surveys.specs.Calls.Answer.{altered}

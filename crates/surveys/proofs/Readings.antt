@@ -4,9 +4,10 @@ use Prim.Native.Nat.{ℕ, _<_, _≤_}
 use native.Mathlib.Decide.{ℕ-discrete}
 use native.Mathlib.Omega.{arith}
 use lib.ListN.{length}
+use Rattle.shapes.specs.Tree.{Tree}
 use Rattle.queries.specs.declared.term.Term.the-variants.{Mark}
 use Rattle.queries.specs.Table.{Table, Reads, term-at, block-of, direction}
-use Rattle.meaning.specs.Solutions.{Grades, Better}
+use Rattle.meaning.specs.Solutions.{Grades, Entry, Better}
 use Rattle.meaning.specs.Readings.{Reading}
 use Rattle.meaning.proofs.Readings.{reading-reads, reading-node, grade-same}
 use Rattle.meaning.proofs.Monotone.{Lawful, grades-better}
@@ -29,6 +30,9 @@ pub record Reads-tag (q : Table) (b a : ℕ) : Type 0 where
   pub stands : reader < length (q .terms)
   pub dealt-here : block-of q reader ≡ b
   pub reads : term-at q reader ≡ Mark a
+
+pub reads-term : {t : Tree} {q : Table} {b i x j y : ℕ} → Entry q t b i x → Reading t (term-at q i) x j y → Reads-term q b j
+reads-term {i = i} e r = record { reader = i; stands = e .term; dealt-here = e .dealt-here; reads = reading-reads r }
 
 -- the two have the same at every entry of block b
 abbrev pub Agree-own : {G : Type 0} → Opening G → ℕ → Grades G → Grades G → Type 0
@@ -57,16 +61,13 @@ module _ {G : Type 0} (o : Opening G) (f : Accepted o) where
   pub read-tag : (b a : ℕ) → Reads-tag (o .query) b a → a < o .query .tags
   read-tag b a r = f .admitted .tag-stands (r .reader) (r .stands) a (r .reads)
 
-  pub reads-term : (b i x j y : ℕ) → Entry-of o b i x → Reading (o .tree) (term-at (o .query) i) x j y → Reads-term (o .query) b j
-  reads-term b i x j y e r = record { reader = i; stands = e .term; dealt-here = e .dealt-here; reads = reading-reads r }
-
   -- what a block's terms give depends on what it reads alone
   pub given-same : (b : ℕ) (m m′ v v′ : Grades G) → Agree-marks o b m m′ → Agree-own o b v v′ → Agree-read o b v v′ → Agree-own o b (given o m v) (given o m′ v′)
   given-same b m m′ v v′ marks own read i x e =
       grade-same (o .kind) (o .tree) m m′ v v′ (term-at (o .query) i) x
       (λ a is. marks a x (record { reader = i; stands = e .term; dealt-here = e .dealt-here; reads = is }) (e .node))
       (λ j y r.
-      let here : Reads-term (o .query) b j = reads-term b i x j y e r in
+      let here : Reads-term (o .query) b j = reads-term e r in
       let node : y < o .tree .count = reading-node (f .tree) (e .node) r in
       elim (ℕ-discrete (block-of (o .query) j) b) [
         | yes same ↦ own j y (record { term = read-entry b j y here node .term; dealt-here = same; node = node })
@@ -75,4 +76,4 @@ module _ {G : Type 0} (o : Opening G) (f : Accepted o) where
 
   -- and keeps the order of its values
   pub given-better : (b : ℕ) (m v w : Grades G) → Agree-read o b v w → ((j y : ℕ) → Entry-of o b j y → Better-at o j (v j y) (w j y)) → (i x : ℕ) → Entry-of o b i x → Better-at o i (given o m v i x) (given o m w i x)
-  given-better b m v w read own i x e = grades-better f m b v w own i x e (λ j y r other. read j y (reads-term b i x j y e r) other (reading-node (f .tree) (e .node) r))
+  given-better b m v w read own i x e = grades-better f m b v w own i x e (λ j y r other. read j y (reads-term e r) other (reading-node (f .tree) (e .node) r))

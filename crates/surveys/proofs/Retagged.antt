@@ -11,7 +11,7 @@ use Rattle.surveys.specs.Places.{Place}
 use Rattle.surveys.specs.Promise.{Lasts}
 use Rattle.surveys.specs.Rules.{Opening, State, Entry-of, Retags, start-of}
 use Rattle.surveys.proofs.Decisions.{grade?, fails-not, none-some, some-some}
-use Rattle.surveys.proofs.Readings.{Accepted, Reads-term, Reads-tag, Agree-marks, Agree-own, Agree-read, read-entry, read-tag}
+use Rattle.surveys.proofs.Readings.{Accepted, Reads-term, Agree-marks, Agree-own, Agree-read, read-entry, read-tag}
 use Rattle.surveys.proofs.Ready.{Ready, ready-stays}
 use Rattle.surveys.proofs.Sound.{Sound}
 

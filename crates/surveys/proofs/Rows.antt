@@ -2,7 +2,6 @@
 use mathlib.Core.Path.{_≡_, refl, sym, _∙_, ap}
 use mathlib.Core.Bool.{Bool}
 use Prim.Native.Nat.{ℕ, _<_}
-use lib.Dec.{T}
 use lib.ListN.{length}
 use Rattle.grades.specs.declared.stage_set.StageSet.{StageSet}
 use Rattle.grades.specs.Kind.{Kind, Laws as KindLaws}
@@ -19,10 +18,10 @@ use Rattle.meaning.proofs.Monotone.{Lawful}
 use Rattle.meaning.proofs.Selections.{yes-no-laws, selects, one-selection}
 use Rattle.meaning.proofs.Stages.{solved-by-stage}
 use Rattle.surveys.specs.Promise.{opening}
-use Rattle.surveys.specs.Readings.{Where-settled, Selects-settled, Solves-by-stage, Selects-by-stage}
-use Rattle.surveys.specs.Rules.{State}
+use Rattle.surveys.specs.Readings.{Where-settled, Selects-settled, Solves-by-stage, Selects-by-stage, Reads-by-stage}
 use Rattle.surveys.proofs.Courses.{sound-after}
 use Rattle.surveys.proofs.Keys.{sound-key}
+use Rattle.surveys.proofs.Marks.{blockwise-marks}
 
 -- a settled row is that of the blockwise solution
 settled-solves : {G : Type 0} {k : Kind G} → KindLaws k → Where-settled k λ t q s i. (v : Grades G) → Blockwise k t q (s .marks) v → (x : ℕ) → x < t .count → s .values i x ≡ v i x
@@ -52,3 +51,12 @@ selects-by-stage t q marks nodes admitted past s course i h settled n l ρ selec
     let found : (v : Grades Bool) × Blockwise yes-no t q (stage n (s .marks)) v = blockwise-stands (record { kind = yes-no-laws; tree = nodes; admitted = admitted }) (stage n (s .marks)) in
     solves-by-stage t q marks nodes admitted past s course i h settled n l (found .0) (found .1) (z .number) (z .stands)
     ∙ solution-selected t q nodes admitted (stage n (s .marks)) (found .0) (found .1) ρ selected i h z
+
+-- a yes/no survey has the same solution where it has the stage's marks
+pub reads-by-stage : Reads-by-stage
+reads-by-stage t q marks nodes admitted past s course i h settled n l marks′ past′ s′ course′ same settled′ x hx =
+    let f : Lawful yes-no t q = record { kind = yes-no-laws; tree = nodes; admitted = admitted } in
+    let found : (v : Grades Bool) × Blockwise yes-no t q (stage n (s .marks)) v = blockwise-stands f (stage n (s .marks)) in
+    let here : Blockwise yes-no t q (s′ .marks) (found .0) = blockwise-marks (opening yes-no t q marks′) f (stage n (s .marks)) (s′ .marks) (found .0) (λ a y ha hy. sym (same a y ha hy)) (found .1) in
+    solves-by-stage t q marks nodes admitted past s course i h settled n l (found .0) (found .1) x hx
+    ∙ sym (settled-solves yes-no-laws t q marks′ nodes admitted past′ s′ course′ i h settled′ (found .0) here x hx)

@@ -9,7 +9,7 @@ use Rattle.std.specs.declared.option.Option.the-variants.{Some}
 use Rattle.queries.specs.Table.{block-of}
 use Rattle.surveys.specs.Places.{Place}
 use Rattle.surveys.specs.Promise.{Lasts}
-use Rattle.surveys.specs.Rules.{Opening, State, Entry-of, Works-on, Steps, Makes}
+use Rattle.surveys.specs.Rules.{Opening, State, Works-on, Steps, Makes}
 use Rattle.surveys.proofs.Decisions.{empty?, fails, fails-not, or-passes, left-passes, right-passes, none-some, some-some}
 use Rattle.surveys.proofs.Readings.{Accepted, read-entry}
 use Rattle.surveys.proofs.Ready.{Ready, ready-stays, ready-begins}

@@ -1,9 +1,9 @@
 -- How many steps are left in a state, and how a step and a retag move that.
-use mathlib.Core.Path.{_≡_, refl, sym, _∙_, ap, subst}
-use mathlib.Core.Logic.{_⊎_, inl, inr}
+use mathlib.Core.Path.{_≡_, refl, _∙_, ap}
+use mathlib.Core.Logic.{inl, inr}
 use mathlib.Core.Bool.{Bool, true, false, cond}
 use mathlib.Core.List.{List}
-use Prim.Native.Nat.{ℕ, _+_, _<_, _≤_}
+use Prim.Native.Nat.{ℕ, _<_, _≤_}
 use native.Mathlib.Nat.{le-refl}
 use native.Mathlib.Omega.{arith}
 use lib.Dec.{T, eqb, eqb-refl}
@@ -81,7 +81,7 @@ module _ {G : Type 0} (o : Opening G) (f : Accepted o) (s s′ : State G) (sound
         rw (left-elsewhere o s c (fails (s .settled c) stale) (λ e. other (works-only o s (st .works-on) c e)), left-elsewhere o s′ c (fails (s′ .settled c) stale′) (λ e. other (current-after o f s s′ sound st c e .0))) (le-refl _)
   ]
 
-module _ {G : Type 0} (o : Opening G) (f : Accepted o) (tag node : ℕ) (grade : G) (s s′ : State G) (sound : Sound o s) (r : Retags o tag node grade s s′) (b : ℕ) where
+module _ {G : Type 0} (o : Opening G) (f : Accepted o) (tag node : ℕ) (grade : G) (s s′ : State G) (r : Retags o tag node grade s s′) (b : ℕ) where
   -- a block that a retag reaches has all its steps left
   pub retag-renews : Reaches (o .query) tag b → steps-left o s′ b ≤ all-of o b
   retag-renews reached = rw (left-elsewhere o s′ b (r .reached-stale b reached) (λ e. current-before o f tag node grade s s′ r b e .1 .0 reached)) (le-refl _)

@@ -66,7 +66,7 @@ module _ {G : Type 0} (o : Opening G) (f : Accepted o) (s s′ : State G) (st : 
       | yes same ↦ rw (h .0, h .1) (sym same)
       | no changed ↦ absurd (out (in-right (st .rest) (st .added) (st .changed changed .whole (i, x) (record { entry = e; reads = rw (h .0, h .1) at reading; waits-not = λ waits. out (in-left (st .rest) (st .added) waits) }))))
     ]
-    | no n ↦ sym (st .others-stay (block-of (o .query) j) j y (read-entry o f (st .block) j y (reads-term o f (st .block) i x j y e reading) (reading-node (f .tree) (e .node) reading)) n)
+    | no n ↦ sym (st .others-stay (block-of (o .query) j) j y (read-entry o f (st .block) j y (reads-term e reading) (reading-node (f .tree) (e .node) reading)) n)
   ]
 
   still-quiet : (i x : ℕ) → Entry-of o (st .block) i x → (In (i, x) (st .rest ++ st .added) → ⊥) → s′ .values i x ≡ given o (s .marks) (s′ .values) i x

@@ -45,6 +45,8 @@ weight q times (suc b) = weight q times b + blocks-terms q b * (1 + times b)
 pub record Kept {G : Type 0} (o : Opening G) (past : Calls G) (s : State G) : Type 0 where
   -- the marks are those of the opening, as the calls have set them
   pub marks : (a x : ℕ) → a < o .query .tags → x < o .tree .count → s .marks a x ≡ marks-after (o .marks) past a x
+  -- so the blockwise solution on these is that on the marks of this moment
+  pub told : (v : Grades G) → Blockwise (o .kind) (o .tree) (o .query) (marks-after (o .marks) past) v → Solution-now o s v
   -- the rows of a settled block are those of the blockwise solution
   pub key : (v : Grades G) → Solution-now o s v → (b i x : ℕ) → T (s .settled b) → Entry-of o b i x → s .values i x ≡ v i x
   pub reads-exactly : (r : ℕ) → r < length (o .query .terms) → Reads-exactly o s r
@@ -84,7 +86,8 @@ pub record Promised {G : Type 0} (o : Opening G) : Type 0 where
   pub answered : (past : Calls G) (s : State G) → Course o (opened o) past s → (c : Call G) → (v : Answer G) × ((s′ : State G) × Does o s c v s′)
   -- and one only
   pub one-outcome : (past : Calls G) (s : State G) → Course o (opened o) past s → (c : Call G) (v w : Answer G) (s′ s″ : State G) → Does o s c v s′ → Does o s c w s″ → Same-answer o v w × Same-state o s′ s″
-  -- so the same calls from the opening on have the same answers, and lead to the same state
+  -- so every list of calls has its answers and leads to a state, and to one only
+  pub some-course : (calls : List (Call G)) → (past : Calls G) × ((s : State G) × ((asked past ≡ calls) × Course o (opened o) past s))
   pub one-course : (past past′ : Calls G) (s s′ : State G) → asked past ≡ asked past′ → Course o (opened o) past s → Course o (opened o) past′ s′ → Same-calls o past past′ × Same-state o s s′
 
 -- so at every opening on grades of the kind

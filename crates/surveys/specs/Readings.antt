@@ -1,9 +1,9 @@
 -- What settled rows are for the two kinds of grade: for yes and no the nodes that the query's formulas select, for stage sets the same at each stage.
 use mathlib.Core.Path.{_≡_}
+use mathlib.Core.Bool.{Bool}
 use Prim.Native.Nat.{ℕ, _<_}
 use lib.Dec.{T}
 use lib.ListN.{length}
-use Rattle.grades.specs.declared.stage_set.StageSet.{StageSet}
 use Rattle.grades.specs.Kind.{Kind}
 use Rattle.grades.specs.StageSets.{bit, stage-sets}
 use Rattle.grades.specs.YesNo.{yes-no}
@@ -28,8 +28,15 @@ Selects-settled = Where-settled yes-no λ t q s i. (ρ : Sets t) → Selected t 
 
 -- for stage sets, each stage of its row is the yes/no solution on that stage's marks
 abbrev pub Solves-by-stage : Type 0
-Solves-by-stage = Where-settled stage-sets λ t q s i. (n : ℕ) → n < 32 → (v : Grades _) → Blockwise yes-no t q (stage n (s .marks)) v → (x : ℕ) → x < t .count → bit n (s .values i x) ≡ v i x
+Solves-by-stage = Where-settled stage-sets λ t q s i. (n : ℕ) → n < 32 → (v : Grades Bool) → Blockwise yes-no t q (stage n (s .marks)) v → (x : ℕ) → x < t .count → bit n (s .values i x) ≡ v i x
 
 -- and has just the nodes that the formulas select on that stage's marks
 abbrev pub Selects-by-stage : Type 0
 Selects-by-stage = Where-settled stage-sets λ t q s i. (n : ℕ) → n < 32 → (ρ : Sets t) → Selected t q (nodes-of t (stage n (s .marks))) ρ → (z : Node t) → nodes-of t (stage n (s .values)) i z ≡ ρ i z
+
+-- so it is the row of any yes/no survey over the same tree and query that has that stage's marks
+abbrev pub Reads-by-stage : Type 0
+Reads-by-stage = Where-settled stage-sets λ t q s i. (n : ℕ) → n < 32 →
+    (marks : Grades Bool) (past : Calls Bool) (s′ : State Bool) → Course (opening yes-no t q marks) (opened (opening yes-no t q marks)) past s′ →
+    ((a x : ℕ) → a < q .tags → x < t .count → s′ .marks a x ≡ stage n (s .marks) a x) → T (s′ .settled (block-of q i)) →
+    (x : ℕ) → x < t .count → bit n (s .values i x) ≡ s′ .values i x

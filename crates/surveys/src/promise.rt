@@ -1,6 +1,6 @@
 //! What surveys keep, whatever calls are made on them.
 ghost use Rattle.surveys.specs.Promise.{Promise-kept};
-ghost use Rattle.surveys.specs.Readings.{Selects-settled, Solves-by-stage, Selects-by-stage};
+ghost use Rattle.surveys.specs.Readings.{Selects-settled, Solves-by-stage, Selects-by-stage, Reads-by-stage};
 use grades::grade::Grade;
 
 /// Whatever calls are made on a survey, it keeps its promise.
@@ -15,6 +15,7 @@ pub fn rows_select() -> u8
     ensures yes_no { λ _. ⌜ Selects-settled ⌝ }
     ensures solved { λ _. ⌜ Solves-by-stage ⌝ }
     ensures selected { λ _. ⌜ Selects-by-stage ⌝ }
+    ensures read { λ _. ⌜ Reads-by-stage ⌝ }
 {
     0
 }
