@@ -21,7 +21,7 @@ pub mod Readings
 pub mod Ready
 pub mod Retagged
 pub mod Room
-pub mod Rows
+pub mod RowsByKind
 pub mod SameRetags
 pub mod SameSteps
 pub mod Sameness
