@@ -1,8 +1,9 @@
 -- What the rows of a query table stand for.
 use mathlib.Core.Bool.{cond}
 use mathlib.Core.List.{List, [], _∷_, map}
-use Prim.Native.Nat.{ℕ, zero, suc}
+use Prim.Native.Nat.{ℕ}
 use lib.Dec.{eqb}
+use Rattle.std.specs.Finite.{nth}
 use Rattle.std.specs.Options.{valueOr}
 use Rattle.std.specs.declared.option.Option.{Option}
 use Rattle.std.specs.declared.option.Option.the-variants.{None, Some}
@@ -35,11 +36,6 @@ kinds =
     (uses-a (SomeNeighbour First) ∷ (uses-a (SomeNeighbour Next) ∷ (uses-a (SomeNeighbour Owner) ∷ (uses-a (SomeNeighbour Previous) ∷
     (uses-a (EveryNeighbour First) ∷ (uses-a (EveryNeighbour Next) ∷ (uses-a (EveryNeighbour Owner) ∷ (uses-a (EveryNeighbour Previous) ∷
     (uses-none Lowest ∷ (uses-none Highest ∷ [])))))))))))))
-
-abbrev pub nth : {A : Type 0} → List A → ℕ → Option A
-nth [] n = None
-nth (x ∷ xs) zero = Some x
-nth (x ∷ xs) (suc n) = nth xs n
 
 -- the term of a kind with its operands; none where an unused operand is not 0
 abbrev pub made-of : Form → ℕ → ℕ → Option Term

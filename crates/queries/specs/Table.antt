@@ -1,9 +1,9 @@
 -- A query as a table of definitions, and the rules that an admitted one keeps.
 use mathlib.Core.Path.{_≡_}
-use mathlib.Core.Bool.{cond}
+use mathlib.Core.Bool.{Bool, cond}
 use mathlib.Core.List.{List, [], _∷_}
 use Prim.Native.Nat.{ℕ, suc, _+_, _-_, _<_, _≤_}
-use lib.Dec.{ltb}
+use lib.Dec.{T, ltb}
 use lib.ListN.{length, getD}
 use Rattle.shapes.specs.declared.axis.Axis.{Axis}
 use Rattle.queries.specs.declared.block.Block.{Block}
@@ -16,6 +16,9 @@ pub record Table : Type 0 where
   pub tags : ℕ
   pub blocks : List Block
   pub terms : List Term
+
+abbrev pub table : ℕ → List Block → List Term → Table
+table tags blocks terms = record { tags = tags; blocks = blocks; terms = terms }
 
 abbrev pub term-at : Table → ℕ → Term
 term-at q i = getD (q .terms) i Lowest
@@ -98,3 +101,7 @@ pub record Directed (q : Table) : Type 0 where
 pub data Reaches (q : Table) (tag : ℕ) : ℕ → Type 0 where
   by-mark : (i : ℕ) → i < length (q .terms) → term-at q i ≡ Mark tag → Reaches q tag (block-of q i)
   by-reading : (i j : ℕ) → i < length (q .terms) → Reads (term-at q i) j → Reaches q tag (block-of q j) → Reaches q tag (block-of q i)
+
+-- a test answers yes exactly where P holds
+abbrev pub Says : Bool → Type 0 → Type 0
+Says b P = (T b → P) × (P → T b)

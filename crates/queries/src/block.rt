@@ -13,3 +13,10 @@ pub struct Block {
     pub solution: Solution,
     pub terms: usize,
 }
+
+/// The terms of a block: from the first up to the end.
+#[derive(Clone, Copy, PartialEq, Eq, Debug)]
+pub struct Span {
+    pub first: usize,
+    pub end: usize,
+}

@@ -1,5 +1,6 @@
 //! Queries: blocks of mutual definitions, admitted or refused.
 pub mod block;
+pub mod query;
 pub mod refusal;
 pub mod rows;
 pub mod term;

@@ -1,0 +1,31 @@
+-- The terms that a term reads, by place.
+use mathlib.Core.Bool.{Bool, false, _||_}
+use Prim.Native.Nat.{ℕ}
+use lib.Dec.{eqb}
+use Rattle.std.specs.declared.option.Option.{Option}
+use Rattle.std.specs.declared.option.Option.the-variants.{None, Some}
+use Rattle.queries.specs.declared.term.Operands.{Operands}
+use Rattle.queries.specs.declared.term.Term.{Term}
+use Rattle.queries.specs.declared.term.Term.the-variants.{Mark, Turn, Meet, Join, SomeNeighbour, EveryNeighbour, Lowest, Highest}
+
+abbrev pub both : ℕ → ℕ → Option Operands
+both a b = Some (record { left = a; right = b })
+
+-- a single operand stands on both sides
+abbrev pub operands-of : Term → Option Operands
+operands-of (Mark a) = None
+operands-of (Turn a) = both a a
+operands-of (Meet a b) = both a b
+operands-of (Join a b) = both a b
+operands-of (SomeNeighbour x a) = both a a
+operands-of (EveryNeighbour x a) = both a a
+operands-of Lowest = None
+operands-of Highest = None
+
+abbrev pub either-is : Option Operands → ℕ → Bool
+either-is None j = false
+either-is (Some o) j = eqb (o .left) j || eqb (o .right) j
+
+abbrev pub either-in : Option Operands → (ℕ → Bool) → Bool
+either-in None p = false
+either-in (Some o) p = p (o .left) || p (o .right)
