@@ -1,6 +1,5 @@
 -- What admission answers for every table.
 use mathlib.Core.Path.{_≡_}
-use mathlib.Core.Logic.{_⊎_}
 use Prim.Native.Nat.{ℕ, _<_, _≤_}
 use lib.ListN.{length, getD}
 use Rattle.std.specs.Options.{isSome}
@@ -9,7 +8,7 @@ use Rattle.queries.specs.declared.refusal.QueryRefusal.{QueryRefusal}
 use Rattle.queries.specs.declared.refusal.QueryRefusal.the-variants.{Sizes, BadBlock, BlockSum, BadTerm, LaterBlock, OwnTurn, NoMemory}
 use Rattle.queries.specs.declared.rows.BlockRow.{BlockRow}
 use Rattle.queries.specs.declared.rows.TermRow.{TermRow}
-use Rattle.queries.specs.Rows.{Rows, term-in, told}
+use Rattle.queries.specs.Rows.{Rows, no-row, term-in, told}
 use Rattle.queries.specs.Table.{Table, total, Tag-stands, Operands-stand, No-later-block, Turn-earlier}
 
 -- at most 16 tags, and 1 to 64 terms
@@ -19,8 +18,11 @@ pub record Sizes-fit (r : Rows) : Type 0 where
   pub few-terms : length (r .terms) ≤ 64
 
 -- a block has a term, and its kind is 0 or 1
+abbrev pub Row-fits : BlockRow → Type 0
+Row-fits row = (1 ≤ row .terms) × (row .kind ≤ 1)
+
 abbrev pub Block-fits : Rows → ℕ → Type 0
-Block-fits r b = (1 ≤ getD (r .blocks) b (record { kind = 0; terms = 0 }) .terms) × (getD (r .blocks) b (record { kind = 0; terms = 0 }) .kind ≤ 1)
+Block-fits r b = Row-fits (getD (r .blocks) b no-row)
 
 abbrev pub Blocks-add-up : Rows → Type 0
 Blocks-add-up r = total (told r .blocks) ≡ length (r .terms)

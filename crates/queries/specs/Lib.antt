@@ -1,4 +1,5 @@
 pub mod Admission
+pub mod Checks
 pub mod Operands
 pub mod Refusals
 pub mod Rows

@@ -23,6 +23,12 @@ pub record Rows : Type 0 where
   pub blocks : List BlockRow
   pub terms : List TermRow
 
+abbrev pub no-row : BlockRow
+no-row = record { kind = 0; terms = 0 }
+
+abbrev pub rows : ℕ → List BlockRow → List TermRow → Rows
+rows tags blocks terms = record { tags = tags; blocks = blocks; terms = terms }
+
 -- a kind by the operands that it uses
 pub data Form : Type 0 where
   uses-none : Term → Form

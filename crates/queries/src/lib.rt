@@ -1,4 +1,5 @@
 //! Queries: blocks of mutual definitions, admitted or refused.
+mod admission;
 pub mod block;
 pub mod query;
 pub mod refusal;

@@ -1,0 +1,4 @@
+pub mod Deals
+pub mod Listed
+pub mod Operands
+pub mod Rules

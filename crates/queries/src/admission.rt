@@ -1,0 +1,161 @@
+//! Admission: whether a table keeps every rule.
+ghost use mathlib.Core.Path.{_≡_};
+ghost use mathlib.Core.List.{List, map};
+ghost use Prim.Native.Nat.{ℕ, _-_, _^_, _<_, _≤_, min};
+ghost use lib.ListN.{length, getD};
+ghost use Rattle.std.specs.Options.{Cases as BySome};
+ghost use Rattle.std.specs.Orderings.{Decides};
+ghost use Rattle.std.specs.Results.{Cases};
+ghost use Rattle.queries.specs.declared.rows.BlockRow.{BlockRow};
+ghost use Rattle.queries.specs.Admission.{Row-fits, Framed, Admissible, Fits, Refused-for};
+ghost use Rattle.queries.specs.Checks.{Homes, Stands-alone, Reads-up-to, Turns-before, Faulty, First-faulty};
+ghost use Rattle.queries.specs.Rows.{rows, no-row, block-in};
+ghost use Rattle.queries.specs.Table.{Reads, total, dealt};
+use crate::refusal::QueryRefusal;
+use crate::rows::BlockRow;
+use crate::rows::TermRow;
+use crate::term::Term;
+
+const MOST_TAGS: u32 = 16;
+
+pub const MOST_TERMS: usize = 64;
+
+/// The first block that is empty or of an unknown kind.
+fn bad_block(blocks: &[BlockRow]) -> Option<usize>
+    ensures { λ r. ⌜ BySome r ((b : ℕ) → b < length (now (blocks .entry)) → Row-fits (getD (now (blocks .entry)) b no-row)) (λ b. (b < length (now (blocks .entry))) × (Row-fits (getD (now (blocks .entry)) b no-row) → ⊥) × ((k : ℕ) → k < b → Row-fits (getD (now (blocks .entry)) k no-row))) ⌝ }
+{
+    for (i, row) in blocks.iter().enumerate() {
+        if row.terms == 0 || row.kind > 1 {
+            return Some(i);
+        }
+    }
+    None
+}
+
+/// How many terms the blocks have; past every number of terms where that does not fit.
+fn term_sum(blocks: &[BlockRow]) -> usize
+    ensures { λ r. ⌜ r ≡ min (total (map block-in (now (blocks .entry)))) (2 ^ 64 - 1) ⌝ }
+{
+    let mut sum = 0usize;
+    for row in blocks {
+        sum = sum.saturating_add(row.terms as usize);
+    }
+    sum
+}
+
+/// Writes the block of each term.
+fn deal(blocks: &[BlockRow], homes: &mut [usize])
+    requires { ⌜ total (map block-in (now blocks)) ≤ length (now homes) ⌝ }
+    ensures { λ _. ⌜ ((i : ℕ) → i < total (map block-in (now (blocks .entry))) → getD (now (homes .exit)) i 0 ≡ dealt (map block-in (now (blocks .entry))) i) ⌝ }
+{
+    let mut first = 0;
+    for (i, row) in blocks.iter().enumerate() {
+        let end = first + row.terms as usize;
+        fill(homes, first, end, i);
+        first = end;
+    }
+}
+
+fn fill(homes: &mut [usize], first: usize, end: usize, home: usize)
+    requires { ⌜ end ≤ length (now homes) ⌝ }
+    ensures inside { λ _. ⌜ ((k : ℕ) → first ≤ k → k < end → getD (now (homes .exit)) k 0 ≡ home) ⌝ }
+    ensures before { λ _. ⌜ ((k : ℕ) → k < first → getD (now (homes .exit)) k 0 ≡ getD (now (homes .entry)) k 0) ⌝ }
+{
+    for k in first..end {
+        homes[k] = home;
+    }
+}
+
+/// Whether a term's tag and operands are there.
+fn stands(term: Term, tags: usize, count: usize) -> bool
+    ensures { λ r. ⌜ Decides r (Stands-alone tags count term) ⌝ }
+{
+    match term.operands() {
+        Some(operands) => operands.left < count && operands.right < count,
+        None => match term {
+            Term::Mark(tag) => tag < tags,
+            _ => true,
+        },
+    }
+}
+
+/// Whether a term of the block `home` reads no later one.
+fn reads_up_to(term: Term, homes: &[usize], home: usize) -> bool
+    requires { ⌜ ((j : ℕ) → Reads term j → j < length (now homes)) ⌝ }
+    ensures { λ r. ⌜ Decides r (Reads-up-to (now (homes .entry)) home term) ⌝ }
+{
+    match term.operands() {
+        Some(operands) => homes[operands.left] <= home && homes[operands.right] <= home,
+        None => true,
+    }
+}
+
+/// Whether a term of the block `home`, if a turn, reads an earlier one.
+fn turns_before(term: Term, homes: &[usize], home: usize) -> bool
+    requires { ⌜ ((j : ℕ) → Reads term j → j < length (now homes)) ⌝ }
+    ensures { λ r. ⌜ Decides r (Turns-before (now (homes .entry)) home term) ⌝ }
+{
+    match term {
+        Term::Turn(a) => homes[a] < home,
+        _ => true,
+    }
+}
+
+/// Whether term `i` keeps every rule, and the first that it breaks.
+fn check_term(tags: u32, terms: &[TermRow], homes: &[usize], i: usize) -> Result<(), QueryRefusal>
+    requires term { ⌜ i < length (now terms) ⌝ }
+    requires dealt { ⌜ length (now terms) ≤ length (now homes) ⌝ }
+    ensures { λ r. ⌜ ((bs : List BlockRow) → Homes (rows tags bs (now (terms .entry))) (now (homes .entry)) → Cases r (λ _. Fits (rows tags bs (now (terms .entry))) i) (λ e. Faulty (rows tags bs (now (terms .entry))) i e)) ⌝ }
+{
+    let Some(term) = terms[i].term() else {
+        return Err(QueryRefusal::BadTerm { term: i });
+    };
+    if !stands(term, tags as usize, terms.len()) {
+        return Err(QueryRefusal::BadTerm { term: i });
+    }
+    if !reads_up_to(term, homes, homes[i]) {
+        return Err(QueryRefusal::LaterBlock { term: i });
+    }
+    if !turns_before(term, homes, homes[i]) {
+        return Err(QueryRefusal::OwnTurn { term: i });
+    }
+    Ok(())
+}
+
+/// Whether every term keeps every rule, and the first that the first faulty one breaks.
+fn check_terms(tags: u32, terms: &[TermRow], homes: &[usize]) -> Result<(), QueryRefusal>
+    requires { ⌜ length (now terms) ≤ length (now homes) ⌝ }
+    ensures { λ r. ⌜ ((bs : List BlockRow) → Homes (rows tags bs (now (terms .entry))) (now (homes .entry)) → Cases r (λ _. (i : ℕ) → i < length (now (terms .entry)) → Fits (rows tags bs (now (terms .entry))) i) (λ e. First-faulty (rows tags bs (now (terms .entry))) e)) ⌝ }
+{
+    for i in 0..terms.len() {
+        check_term(tags, terms, homes, i)?;
+    }
+    Ok(())
+}
+
+/// Whether the sizes and the blocks are as they should be, and the first cause where not.
+fn check_frame(tags: u32, blocks: &[BlockRow], terms: &[TermRow]) -> Result<(), QueryRefusal>
+    ensures { λ r. ⌜ Cases r (λ _. Framed (rows tags (now (blocks .entry)) (now (terms .entry)))) (λ e. Refused-for (rows tags (now (blocks .entry)) (now (terms .entry))) e) ⌝ }
+{
+    if tags > MOST_TAGS || terms.is_empty() || terms.len() > MOST_TERMS {
+        return Err(QueryRefusal::Sizes);
+    }
+    if let Some(block) = bad_block(blocks) {
+        return Err(QueryRefusal::BadBlock { block });
+    }
+    if term_sum(blocks) != terms.len() {
+        return Err(QueryRefusal::BlockSum);
+    }
+    Ok(())
+}
+
+/// The block of each term of a table that keeps every rule, or the first cause to refuse it.
+pub fn check(tags: u32, blocks: &[BlockRow], terms: &[TermRow]) -> Result<[usize; MOST_TERMS], QueryRefusal>
+    ensures { λ r. ⌜ Cases r (λ homes. Admissible (rows tags (now (blocks .entry)) (now (terms .entry))) × Homes (rows tags (now (blocks .entry)) (now (terms .entry))) homes) (λ e. Refused-for (rows tags (now (blocks .entry)) (now (terms .entry))) e) ⌝ }
+{
+    check_frame(tags, blocks, terms)?;
+    let mut homes = [0; MOST_TERMS];
+    deal(blocks, &mut homes);
+    check_terms(tags, terms, &homes)?;
+    Ok(homes)
+}
