@@ -1,4 +1,6 @@
 pub mod Deals
 pub mod Listed
 pub mod Operands
+pub mod Reached
+pub mod Readers
 pub mod Rules

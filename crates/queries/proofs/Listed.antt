@@ -1,15 +1,16 @@
 -- Lists of a function of the numbers below a bound.
-use mathlib.Core.Path.{_≡_, refl, sym, _∙_}
+use mathlib.Core.Path.{_≡_, sym, ap, ap₂, _∙_}
 use mathlib.Core.Bool.{cond}
 use mathlib.Core.Logic.{inl, inr}
-use mathlib.Core.List.{List, [], _∷_, _++_}
+use mathlib.Core.List.{List, [], _∷_, _++_, map}
 use Prim.Native.Nat.{ℕ, _+_, _<_, _≤_}
 use native.Mathlib.Omega.{arith}
 use lib.Dec.{ltb}
-use lib.ListN.{length, getD}
+use lib.ListN.{length, getD, set, take}
 use Rattle.std.specs.Finite.{nth}
 use Rattle.std.specs.declared.option.Option.the-variants.{None, Some}
 use Rattle.std.proofs.shelf.Counted.{length-map-counting, getD-map-counting, map-counting-more, fill-by-all}
+use Rattle.std.proofs.shelf.Lists.{map-more, take-all, map-set, getD-map}
 use Rattle.std.proofs.shelf.Maps.{nth-getD, nth-past}
 use Rattle.std.proofs.shelf.Tests.{cases-lt, lt-ltb, le-ltb}
 use Rattle.queries.specs.Workings.{listed}
@@ -35,3 +36,23 @@ module _ {X : Type 0} (f : ℕ → X) where
 
       past : n ≤ i → nth (listed f n) i ≡ cond (ltb i n) (Some (f i)) None
       past h = rw (le-ltb i n h, nth-past (listed f n) i (rw length-listed h))
+
+  -- a list that a loop pushes onto
+  pub listed-push : (n : ℕ) (xs ys : List X) (x : X) → xs ≡ listed f n → x ≡ f n → ys ≡ xs ++ (x ∷ []) → ys ≡ listed f (n + 1)
+  listed-push n xs ys x e h pushed = pushed ∙ ap₂ (λ zs z. zs ++ (z ∷ [])) e h ∙ sym (listed-more n)
+
+  -- the same with the bound by another name
+  pub listed-upto : (n m : ℕ) (xs : List X) → xs ≡ listed f n → n ≡ m → xs ≡ listed f m
+  listed-upto n m xs e h = e ∙ ap (listed f) h
+
+module _ {X Y : Type 0} (f : X → Y) (xs : List X) where
+  -- a list of what the elements so far are mapped to, that a loop pushes onto
+  pub mapped-push : (i : ℕ) (d : X) (ys zs : List Y) (y : Y) → i < length xs → ys ≡ map f (take i xs) → y ≡ f (getD xs i d) → zs ≡ ys ++ (y ∷ []) → zs ≡ map f (take (i + 1) xs)
+  mapped-push i d ys zs y h e is pushed = pushed ∙ ap₂ (λ vs v. vs ++ (v ∷ [])) e is ∙ sym (map-more f xs i d h)
+
+  pub mapped-all : (i : ℕ) (ys : List Y) → length xs ≤ i → ys ≡ map f (take i xs) → ys ≡ map f xs
+  mapped-all i ys h e = e ∙ ap (map f) (take-all i xs h)
+
+  -- an element in the place of x
+  pub mapped-set : (k : ℕ) (x v : X) (d : Y) (change : Y → Y) → k < length xs → x ≡ getD xs k x → f v ≡ change (f x) → map f (set xs k v) ≡ set (map f xs) k (change (getD (map f xs) k d))
+  mapped-set k x v d change h is e = map-set f xs k v ∙ ap (set (map f xs) k) (e ∙ ap change (ap f is ∙ sym (getD-map f xs k x d h)))

@@ -26,6 +26,13 @@ abbrev pub either-is : Option Operands → ℕ → Bool
 either-is None j = false
 either-is (Some o) j = eqb (o .left) j || eqb (o .right) j
 
-abbrev pub either-in : Option Operands → (ℕ → Bool) → Bool
-either-in None p = false
-either-in (Some o) p = p (o .left) || p (o .right)
+-- whether a term is the mark of a tag
+abbrev pub marks : Term → ℕ → Bool
+marks (Mark a) tag = eqb a tag
+marks (Turn a) tag = false
+marks (Meet a b) tag = false
+marks (Join a b) tag = false
+marks (SomeNeighbour x a) tag = false
+marks (EveryNeighbour x a) tag = false
+marks Lowest tag = false
+marks Highest tag = false

@@ -1,17 +1,20 @@
 -- What a query keeps worked out: each as a function of its table.
 use mathlib.Core.Bool.{Bool, false, cond, _&&_, _||_}
-use mathlib.Core.List.{List, map}
+use mathlib.Core.List.{List, [], _∷_, _++_, map}
 use Prim.Native.Nat.{ℕ, zero, suc, _+_}
 use lib.Dec.{eqb}
-use lib.ListN.{length, take}
+use lib.ListN.{getD, take}
 use Rattle.std.specs.Iters.{counting}
 use Rattle.std.specs.shelf.Lists.{kept-by}
+use Rattle.std.specs.declared.option.Option.{Option}
+use Rattle.std.specs.declared.option.Option.the-variants.{None, Some}
 use Rattle.queries.specs.declared.block.Block.{Block}
 use Rattle.queries.specs.declared.block.Span.{Span}
+use Rattle.queries.specs.declared.term.Operands.{Operands}
 use Rattle.queries.specs.declared.term.Term.{Term}
-use Rattle.queries.specs.declared.term.Term.the-variants.{Mark, Turn, Meet, Join, SomeNeighbour, EveryNeighbour, Lowest, Highest}
-use Rattle.queries.specs.Operands.{operands-of, either-is, either-in}
-use Rattle.queries.specs.Table.{Table, term-at, block-of, blocks-terms, total}
+use Rattle.queries.specs.declared.term.Term.the-variants.{Lowest}
+use Rattle.queries.specs.Operands.{operands-of, either-is, marks}
+use Rattle.queries.specs.Table.{Table, blocks-terms, total}
 
 -- a function of the numbers below n, as a list
 abbrev pub listed : {X : Type 0} → (ℕ → X) → ℕ → List X
@@ -21,25 +24,29 @@ listed f n = map f (counting 0 n)
 abbrev pub span-of : Table → ℕ → Span
 span-of q b = record { first = total (take b (q .blocks)); end = total (take b (q .blocks)) + blocks-terms q b }
 
--- whether term j is of the block of term t, and reads it
-abbrev pub reads-within : Table → ℕ → ℕ → Bool
-reads-within q t j = eqb (block-of q j) (block-of q t) && either-is (operands-of (term-at q j)) t
+-- below, homes has the block of each term
 
-abbrev pub readers-before : Table → ℕ → ℕ → List ℕ
-readers-before q n t = kept-by (reads-within q t) (counting 0 n)
+-- whether term j is of the block of term t, and reads it
+abbrev pub reads-within : List ℕ → List Term → ℕ → ℕ → Bool
+reads-within homes terms t j = eqb (getD homes j 0) (getD homes t 0) && either-is (operands-of (getD terms j Lowest)) t
+
+-- of the first n terms, those that are of the block of term t and read it
+abbrev pub readers-before : List ℕ → List Term → ℕ → ℕ → List ℕ
+readers-before homes terms n t = kept-by (reads-within homes terms t) (counting 0 n)
+
+-- a list with one more at its end, where a test says so
+abbrev pub noted : Bool → List ℕ → ℕ → List ℕ
+noted test l j = cond test (l ++ (j ∷ [])) l
 
 -- whether a term reads the tag or, by its operands, a block that is reached
-abbrev pub touched : Table → ℕ → (ℕ → Bool) → Term → Bool
-touched q tag reached (Mark a) = eqb a tag
-touched q tag reached (Turn a) = either-in (operands-of (Turn a)) (λ j. reached (block-of q j))
-touched q tag reached (Meet a b) = either-in (operands-of (Meet a b)) (λ j. reached (block-of q j))
-touched q tag reached (Join a b) = either-in (operands-of (Join a b)) (λ j. reached (block-of q j))
-touched q tag reached (SomeNeighbour x a) = either-in (operands-of (SomeNeighbour x a)) (λ j. reached (block-of q j))
-touched q tag reached (EveryNeighbour x a) = either-in (operands-of (EveryNeighbour x a)) (λ j. reached (block-of q j))
-touched q tag reached Lowest = false
-touched q tag reached Highest = false
+abbrev pub touching : Option Operands → Bool → (ℕ → Bool) → Bool
+touching None mark reached = mark
+touching (Some o) mark reached = reached (o .left) || reached (o .right)
+
+abbrev pub touched : List ℕ → ℕ → (ℕ → Bool) → Term → Bool
+touched homes tag reached term = touching (operands-of term) (marks term tag) (λ j. reached (getD homes j 0))
 
 -- whether a tag reaches a block by the first n terms
-abbrev pub reached-before : Table → ℕ → ℕ → ℕ → Bool
-reached-before q tag zero b = false
-reached-before q tag (suc n) b = reached-before q tag n b || (eqb (block-of q n) b && touched q tag (reached-before q tag n) (term-at q n))
+abbrev pub reached-before : List ℕ → List Term → ℕ → ℕ → ℕ → Bool
+reached-before homes terms tag zero b = false
+reached-before homes terms tag (suc n) b = reached-before homes terms tag n b || (eqb (getD homes n 0) b && touched homes tag (reached-before homes terms tag n) (getD terms n Lowest))

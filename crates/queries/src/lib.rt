@@ -5,3 +5,4 @@ pub mod query;
 pub mod refusal;
 pub mod rows;
 pub mod term;
+mod workings;

@@ -34,6 +34,6 @@ pub struct Query {
     ghost turn_earlier: { (i : ℕ) → i < length (vec-items terms) → Turn-earlier (table tags (vec-items blocks) (vec-items terms)) i },
     ghost homes_stand: { vec-items homes ≡ listed (block-of (table tags (vec-items blocks) (vec-items terms))) (length (vec-items terms)) },
     ghost spans_stand: { vec-items spans ≡ listed (span-of (table tags (vec-items blocks) (vec-items terms))) (length (vec-items blocks)) },
-    ghost readers_stand: { map vec-items (vec-items readers) ≡ listed (readers-before (table tags (vec-items blocks) (vec-items terms)) (length (vec-items terms))) (length (vec-items terms)) },
-    ghost reached_stand: { map vec-items (vec-items reached) ≡ listed (λ tag. listed (reached-before (table tags (vec-items blocks) (vec-items terms)) tag (length (vec-items terms))) (length (vec-items blocks))) tags },
+    ghost readers_stand: { map vec-items (vec-items readers) ≡ listed (readers-before (vec-items homes) (vec-items terms) (length (vec-items terms))) (length (vec-items terms)) },
+    ghost reached_stand: { map vec-items (vec-items reached) ≡ listed (λ tag. listed (reached-before (vec-items homes) (vec-items terms) tag (length (vec-items terms))) (length (vec-items blocks))) tags },
 }
