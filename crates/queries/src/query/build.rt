@@ -1,0 +1,48 @@
+//! Making a query, and admitting another in its place.
+ghost use mathlib.Core.Path.{_≡_};
+ghost use lib.ListN.{length};
+ghost use Rattle.std.specs.Of.Vec.{vec-items};
+ghost use Rattle.std.specs.Results.{Cases};
+ghost use Rattle.std.specs.Vec.{made};
+ghost use Rattle.queries.specs.declared.refusal.QueryRefusal.the-variants.{NoMemory};
+ghost use Rattle.queries.specs.Admission.{Admissible, Refused-for};
+ghost use Rattle.queries.specs.Queries.{table-of, lowest-alone};
+ghost use Rattle.queries.specs.Rows.{rows, told as told-by};
+ghost use Rattle.queries.specs.Table.{table, block-of, Admitted};
+ghost use Rattle.queries.specs.Workings.{listed};
+use crate::admission::check;
+use crate::block::Block;
+use crate::block::Solution;
+use crate::query::Query;
+use crate::refusal::QueryRefusal;
+use crate::rows::BlockRow;
+use crate::rows::TermRow;
+use crate::term::Term;
+use crate::workings::blocks_told;
+use crate::workings::reached_of;
+use crate::workings::readers_of;
+use crate::workings::spans_of;
+use crate::workings::terms_told;
+use std::alloc::AllocError;
+use std::alloc::Global;
+
+/// The query of a table that keeps every rule, with the block of each term at hand.
+fn build(heap: Global, tags: usize, blocks: Vec<Block>, terms: Vec<Term>, homes: &[usize]) -> Result<Query, AllocError>
+    requires rules { ⌜ Admitted (table tags (vec-items blocks) (vec-items terms)) ⌝ }
+    requires homes { ⌜ now homes ≡ listed (block-of (table tags (vec-items blocks) (vec-items terms))) (length (vec-items terms)) ⌝ }
+    ensures { λ r. ⌜ made r (λ q. table-of q ≡ table tags (vec-items blocks) (vec-items terms)) ⌝ }
+{
+    let spans = spans_of(heap, &blocks)?;
+    let readers = readers_of(heap, &terms, homes)?;
+    let reached = reached_of(heap, &terms, homes, blocks.len(), tags)?;
+    let homes = Vec::from_slice(heap, homes)?;
+    Ok(Query {
+        tags,
+        blocks,
+        terms,
+        homes,
+        spans,
+        readers,
+        reached,
+    })
+}
