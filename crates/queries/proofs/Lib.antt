@@ -1,4 +1,5 @@
 pub mod Deals
+pub mod Directions
 pub mod Listed
 pub mod Operands
 pub mod Reached

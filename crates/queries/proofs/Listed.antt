@@ -10,7 +10,7 @@ use lib.ListN.{length, getD, set, take}
 use Rattle.std.specs.Finite.{nth}
 use Rattle.std.specs.declared.option.Option.the-variants.{None, Some}
 use Rattle.std.proofs.shelf.Counted.{length-map-counting, getD-map-counting, map-counting-more, fill-by-all}
-use Rattle.std.proofs.shelf.Lists.{map-more, take-all, map-set, getD-map}
+use Rattle.std.proofs.shelf.Lists.{length-take-le, getD-take, map-more, take-all, map-set, getD-map}
 use Rattle.std.proofs.shelf.Maps.{nth-getD, nth-past}
 use Rattle.std.proofs.shelf.Tests.{cases-lt, lt-ltb, le-ltb}
 use Rattle.queries.specs.Workings.{listed}
@@ -27,6 +27,10 @@ module _ {X : Type 0} (f : ℕ → X) where
 
   pub listed-all : (xs : List X) (n : ℕ) (d : X) → length xs ≡ n → ((k : ℕ) → k < n → getD xs k d ≡ f k) → xs ≡ listed f n
   listed-all = fill-by-all f
+
+  -- the first n of a list
+  pub listed-front : (xs : List X) (n m : ℕ) (d : X) → m ≡ n → n ≤ length xs → ((k : ℕ) → k < n → getD xs k d ≡ f k) → take m xs ≡ listed f n
+  listed-front xs n m d same long h = ap (λ k. take k xs) same ∙ listed-all (take n xs) n d (length-take-le n xs long) (λ k l. getD-take n xs k d l ∙ h k l)
 
   pub nth-listed : (n i : ℕ) → nth (listed f n) i ≡ cond (ltb i n) (Some (f i)) None
   nth-listed n i = elim (cases-lt i n) [ inl h ↦ below h | inr h ↦ past h ]

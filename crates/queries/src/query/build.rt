@@ -46,3 +46,51 @@ fn build(heap: Global, tags: usize, blocks: Vec<Block>, terms: Vec<Term>, homes:
         reached,
     })
 }
+
+/// The query that rows tell.
+fn told(heap: Global, tags: u32, blocks: &[BlockRow], terms: &[TermRow], homes: &[usize]) -> Result<Query, AllocError>
+    requires rules { ⌜ Admissible (rows tags (now blocks) (now terms)) ⌝ }
+    requires homes { ⌜ now homes ≡ listed (block-of (told-by (rows tags (now blocks) (now terms)))) (length (now terms)) ⌝ }
+    ensures { λ r. ⌜ made r (λ q. table-of q ≡ told-by (rows tags (now (blocks .entry)) (now (terms .entry)))) ⌝ }
+{
+    let blocks = blocks_told(heap, blocks)?;
+    let terms = terms_told(heap, terms)?;
+    build(heap, tags as usize, blocks, terms, homes)
+}
+
+/// The least query there is.
+fn lowest(heap: Global) -> Result<Query, AllocError>
+    ensures { λ r. ⌜ made r (λ q. table-of q ≡ lowest-alone) ⌝ }
+{
+    let block = Block {
+        solution: Solution::Least,
+        terms: 1,
+    };
+    let blocks = vec![in heap; block]?;
+    let terms = vec![in heap; Term::Lowest]?;
+    build(heap, 0, blocks, terms, &[0])
+}
+
+impl Query {
+    /// A query of one term, the lowest, in a least block, and of no tag.
+    pub fn new(heap: Global) -> Result<Query, QueryRefusal>
+        ensures { λ r. ⌜ Cases r (λ q. table-of q ≡ lowest-alone) (λ e. e ≡ NoMemory) ⌝ }
+    {
+        match lowest(heap) {
+            Ok(query) => Ok(query),
+            Err(_) => Err(QueryRefusal::NoMemory),
+        }
+    }
+
+    /// Takes the place of this query by what a table tells, or refuses the table and leaves the query as it was.
+    pub fn admit(&mut self, heap: Global, tags: u32, blocks: &[BlockRow], terms: &[TermRow]) -> Result<(), QueryRefusal>
+        ensures { λ r. ⌜ Cases r (λ _. Admissible (rows tags (now (blocks .entry)) (now (terms .entry))) × (table-of (now (self .exit)) ≡ told-by (rows tags (now (blocks .entry)) (now (terms .entry))))) (λ e. (now (self .exit) ≡ now (self .entry)) × Refused-for (rows tags (now (blocks .entry)) (now (terms .entry))) e) ⌝ }
+    {
+        let homes = check(tags, blocks, terms)?;
+        let Ok(query) = told(heap, tags, blocks, terms, &homes[0..terms.len()]) else {
+            return Err(QueryRefusal::NoMemory);
+        };
+        *self = query;
+        Ok(())
+    }
+}
