@@ -2,6 +2,8 @@ pub mod Deals
 pub mod Directions
 pub mod Listed
 pub mod Operands
+pub mod Questions
 pub mod Reached
+pub mod Reaching
 pub mod Readers
 pub mod Rules

@@ -150,7 +150,11 @@ fn check_frame(tags: u32, blocks: &[BlockRow], terms: &[TermRow]) -> Result<(), 
 }
 
 /// The block of each term of a table that keeps every rule, or the first cause to refuse it.
-pub fn check(tags: u32, blocks: &[BlockRow], terms: &[TermRow]) -> Result<[usize; MOST_TERMS], QueryRefusal>
+pub fn check(
+    tags: u32,
+    blocks: &[BlockRow],
+    terms: &[TermRow],
+) -> Result<[usize; MOST_TERMS], QueryRefusal>
     ensures { λ r. ⌜ Cases r (λ homes. Admissible (rows tags (now (blocks .entry)) (now (terms .entry))) × Homes (rows tags (now (blocks .entry)) (now (terms .entry))) homes) (λ e. Refused-for (rows tags (now (blocks .entry)) (now (terms .entry))) e) ⌝ }
 {
     check_frame(tags, blocks, terms)?;

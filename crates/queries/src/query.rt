@@ -6,7 +6,9 @@ ghost use lib.ListN.{length};
 ghost use Rattle.std.specs.Of.Vec.{vec-items};
 ghost use Rattle.queries.specs.Table.{table, total, blocks-terms, block-of, Tag-stands, Operands-stand, No-later-block, Turn-earlier};
 ghost use Rattle.queries.specs.Workings.{listed, span-of, readers-before, reached-before};
+
 mod build;
+mod questions;
 
 use crate::block::Block;
 use crate::block::Span;

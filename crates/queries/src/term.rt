@@ -38,7 +38,8 @@ impl Term {
         match self {
             Term::Mark(_) | Term::Lowest | Term::Highest => None,
             Term::Meet(left, right) | Term::Join(left, right) => Some(Operands { left, right }),
-            Term::Turn(a) | Term::SomeNeighbour(_, a) | Term::EveryNeighbour(_, a) => Some(Operands { left: a, right: a }),
+            Term::Turn(a) | Term::SomeNeighbour(_, a) | Term::EveryNeighbour(_, a) =>
+                Some(Operands { left: a, right: a }),
         }
     }
 }

@@ -79,7 +79,12 @@ fn note(readers: &mut Vec<Vec<usize>>, read: usize, reader: usize) -> Result<(),
 }
 
 /// Notes the same if both terms are of one block.
-fn note_within(readers: &mut Vec<Vec<usize>>, homes: &[usize], read: usize, reader: usize) -> Result<(), AllocError>
+fn note_within(
+    readers: &mut Vec<Vec<usize>>,
+    homes: &[usize],
+    read: usize,
+    reader: usize,
+) -> Result<(), AllocError>
     requires lists { ⌜ length (vec-items (now readers)) ≡ length (now homes) ⌝ }
     requires read { ⌜ read < length (now homes) ⌝ }
     requires reader { ⌜ reader < length (now homes) ⌝ }
@@ -93,7 +98,12 @@ fn note_within(readers: &mut Vec<Vec<usize>>, homes: &[usize], read: usize, read
 }
 
 /// Notes a term at each term of its block that it reads.
-fn note_operands(readers: &mut Vec<Vec<usize>>, homes: &[usize], term: Term, reader: usize) -> Result<(), AllocError>
+fn note_operands(
+    readers: &mut Vec<Vec<usize>>,
+    homes: &[usize],
+    term: Term,
+    reader: usize,
+) -> Result<(), AllocError>
     requires lists { ⌜ length (vec-items (now readers)) ≡ length (now homes) ⌝ }
     requires operands { ⌜ ((j : ℕ) → Reads term j → j < length (now homes)) ⌝ }
     requires reader { ⌜ reader < length (now homes) ⌝ }
@@ -111,7 +121,11 @@ fn note_operands(readers: &mut Vec<Vec<usize>>, homes: &[usize], term: Term, rea
 }
 
 /// For each term the terms of its block that read it, in rising order.
-pub fn readers_of(heap: Global, terms: &[Term], homes: &[usize]) -> Result<Vec<Vec<usize>>, AllocError>
+pub fn readers_of(
+    heap: Global,
+    terms: &[Term],
+    homes: &[usize],
+) -> Result<Vec<Vec<usize>>, AllocError>
     requires homes { ⌜ length (now homes) ≡ length (now terms) ⌝ }
     requires operands { ⌜ ((i j : ℕ) → i < length (now terms) → Reads (getD (now terms) i Lowest) j → j < length (now terms)) ⌝ }
     ensures { λ r. ⌜ made r (λ v. map vec-items (vec-items v) ≡ listed (readers-before (now (homes .entry)) (now (terms .entry)) (length (now (terms .entry)))) (length (now (terms .entry)))) ⌝ }
@@ -138,7 +152,8 @@ fn touches(term: Term, homes: &[usize], reached: &[bool], tag: usize) -> bool
     ensures { λ r. ⌜ r ≡ touched (now (homes .entry)) tag (λ b. getD (now (reached .entry)) b false) term ⌝ }
 {
     match term.operands() {
-        Some(operands) => is_reached(reached, homes, operands.left) || is_reached(reached, homes, operands.right),
+        Some(operands) => is_reached(reached, homes, operands.left)
+            || is_reached(reached, homes, operands.right),
         None => match term {
             Term::Mark(a) => a == tag,
             _ => false,
@@ -147,7 +162,13 @@ fn touches(term: Term, homes: &[usize], reached: &[bool], tag: usize) -> bool
 }
 
 /// Whether a tag reaches each block. A term reads no later block, so one pass is enough.
-fn reached_by(heap: Global, terms: &[Term], homes: &[usize], blocks: usize, tag: usize) -> Result<Vec<bool>, AllocError>
+fn reached_by(
+    heap: Global,
+    terms: &[Term],
+    homes: &[usize],
+    blocks: usize,
+    tag: usize,
+) -> Result<Vec<bool>, AllocError>
     requires homes { ⌜ length (now homes) ≡ length (now terms) ⌝ }
     requires blocks { ⌜ ((i : ℕ) → i < length (now terms) → getD (now homes) i 0 < blocks) ⌝ }
     requires operands { ⌜ ((i j : ℕ) → i < length (now terms) → Reads (getD (now terms) i Lowest) j → j < length (now terms)) ⌝ }
@@ -163,7 +184,13 @@ fn reached_by(heap: Global, terms: &[Term], homes: &[usize], blocks: usize, tag:
 }
 
 /// For each tag, whether it reaches each block.
-pub fn reached_of(heap: Global, terms: &[Term], homes: &[usize], blocks: usize, tags: usize) -> Result<Vec<Vec<bool>>, AllocError>
+pub fn reached_of(
+    heap: Global,
+    terms: &[Term],
+    homes: &[usize],
+    blocks: usize,
+    tags: usize,
+) -> Result<Vec<Vec<bool>>, AllocError>
     requires homes { ⌜ length (now homes) ≡ length (now terms) ⌝ }
     requires blocks { ⌜ ((i : ℕ) → i < length (now terms) → getD (now homes) i 0 < blocks) ⌝ }
     requires operands { ⌜ ((i j : ℕ) → i < length (now terms) → Reads (getD (now terms) i Lowest) j → j < length (now terms)) ⌝ }

@@ -27,7 +27,13 @@ use std::alloc::AllocError;
 use std::alloc::Global;
 
 /// The query of a table that keeps every rule, with the block of each term at hand.
-fn build(heap: Global, tags: usize, blocks: Vec<Block>, terms: Vec<Term>, homes: &[usize]) -> Result<Query, AllocError>
+fn build(
+    heap: Global,
+    tags: usize,
+    blocks: Vec<Block>,
+    terms: Vec<Term>,
+    homes: &[usize],
+) -> Result<Query, AllocError>
     requires rules { ⌜ Admitted (table tags (vec-items blocks) (vec-items terms)) ⌝ }
     requires homes { ⌜ now homes ≡ listed (block-of (table tags (vec-items blocks) (vec-items terms))) (length (vec-items terms)) ⌝ }
     ensures { λ r. ⌜ made r (λ q. table-of q ≡ table tags (vec-items blocks) (vec-items terms)) ⌝ }
@@ -48,7 +54,13 @@ fn build(heap: Global, tags: usize, blocks: Vec<Block>, terms: Vec<Term>, homes:
 }
 
 /// The query that rows tell.
-fn told(heap: Global, tags: u32, blocks: &[BlockRow], terms: &[TermRow], homes: &[usize]) -> Result<Query, AllocError>
+fn told(
+    heap: Global,
+    tags: u32,
+    blocks: &[BlockRow],
+    terms: &[TermRow],
+    homes: &[usize],
+) -> Result<Query, AllocError>
     requires rules { ⌜ Admissible (rows tags (now blocks) (now terms)) ⌝ }
     requires homes { ⌜ now homes ≡ listed (block-of (told-by (rows tags (now blocks) (now terms)))) (length (now terms)) ⌝ }
     ensures { λ r. ⌜ made r (λ q. table-of q ≡ told-by (rows tags (now (blocks .entry)) (now (terms .entry)))) ⌝ }
@@ -83,7 +95,13 @@ impl Query {
     }
 
     /// Takes the place of this query by what a table tells, or refuses the table and leaves the query as it was.
-    pub fn admit(&mut self, heap: Global, tags: u32, blocks: &[BlockRow], terms: &[TermRow]) -> Result<(), QueryRefusal>
+    pub fn admit(
+        &mut self,
+        heap: Global,
+        tags: u32,
+        blocks: &[BlockRow],
+        terms: &[TermRow],
+    ) -> Result<(), QueryRefusal>
         ensures { λ r. ⌜ Cases r (λ _. Admissible (rows tags (now (blocks .entry)) (now (terms .entry))) × (table-of (now (self .exit)) ≡ told-by (rows tags (now (blocks .entry)) (now (terms .entry))))) (λ e. (now (self .exit) ≡ now (self .entry)) × Refused-for (rows tags (now (blocks .entry)) (now (terms .entry))) e) ⌝ }
     {
         let homes = check(tags, blocks, terms)?;

@@ -17,8 +17,7 @@ pub returns-then-not-reads-up-to : need.returns-then-not-reads-up-to
 returns-then-not-reads-up-to c bs right =
     let r = rows (c .args .tags) bs (c .args .terms .now) in
     let is = sym (c .in-Some .ensures tt) in
-    let s = stands-there r (c .args .i) (c .pre .term) (c .in-Some .term) is (c .stands .ensures .0 (c .if-not-stands .left)) in
-    (
+    let s = stands-there r (c .args .i) (c .pre .term) (c .in-Some .term) is (c .stands .ensures .0 (c .if-not-stands .left)) in (
       refl,
       s,
       λ h. not-from-decides (c .reads-up-to .result) (c .reads-up-to .ensures) (c .if-not-reads-up-to .taken) (later-here r (c .args .i) (c .pre .term) (c .in-Some .term) is (c .args .homes .now) right s h),
@@ -28,8 +27,7 @@ pub returns-then-not-turns-before : need.returns-then-not-turns-before
 returns-then-not-turns-before c bs right =
     let r = rows (c .args .tags) bs (c .args .terms .now) in
     let is = sym (c .in-Some .ensures tt) in
-    let s = stands-there r (c .args .i) (c .pre .term) (c .in-Some .term) is (c .stands .ensures .0 (c .if-not-stands .left)) in
-    (
+    let s = stands-there r (c .args .i) (c .pre .term) (c .in-Some .term) is (c .stands .ensures .0 (c .if-not-stands .left)) in (
       refl,
       s,
       later-there r (c .args .i) (c .pre .term) (c .in-Some .term) is (c .args .homes .now) right s (c .reads-up-to .ensures .0 (c .if-not-reads-up-to .left)),

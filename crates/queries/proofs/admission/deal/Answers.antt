@@ -21,12 +21,11 @@ fill-requires c κs =
 pub loop-i-again : need.loop-i-again
 loop-i-again c =
     let rows = c .args .blocks .now in
-    let i = c .loop-i .i in
-    (
+    let i = c .loop-i .i in (
       omega (arith, told-more rows i (c .loop-i-test .taken), c .loop-i .inv .0),
       λ k h. elim (cases-lt k (c .loop-i .first)) [
-        inl l ↦ c .fill .ensures .before k l ∙ c .loop-i .inv .1 k l
-      | inr l ↦ c .fill .ensures .inside k l h ∙ sym (told-in rows i k (c .loop-i-test .taken) (omega (arith, c .loop-i .inv .0)) (omega (arith, c .loop-i .inv .0)))
+        | inl l ↦ c .fill .ensures .before k l ∙ c .loop-i .inv .1 k l
+        | inr l ↦ c .fill .ensures .inside k l h ∙ sym (told-in rows i k (c .loop-i-test .taken) (omega (arith, c .loop-i .inv .0)) (omega (arith, c .loop-i .inv .0)))
       ],
     )
 

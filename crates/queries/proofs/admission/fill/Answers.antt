@@ -12,11 +12,10 @@ loop-k-again c =
     let homes = c .loop-k .homes in
     let i = c .loop-k .k in
     let home = c .args .home in
-    let in′ : i < length homes = omega arith in
-    (
+    let in′ : i < length homes = omega arith in (
       λ k low high. elim (cases-eq k i) [
-        inl e ↦ ap (λ n. getD (set homes i home) n 0) e ∙ getD-set-same homes i home 0 in′
-      | inr e ↦ getD-set-other homes i k home 0 e ∙ c .loop-k .inv .0 k low (omega arith)
+        | inl e ↦ ap (λ n. getD (set homes i home) n 0) e ∙ getD-set-same homes i home 0 in′
+        | inr e ↦ getD-set-other homes i k home 0 e ∙ c .loop-k .inv .0 k low (omega arith)
       ],
       λ k h. getD-set-other homes i k home 0 (omega arith) ∙ c .loop-k .inv .1 k h,
     )

@@ -21,8 +21,7 @@ index-homes-operands-then-homes-operands c = c .pre _ (right-read (c .args .term
 pub returns-then-homes-operands : need.returns-then-homes-operands
 returns-then-homes-operands c =
     let o = c .in-Some .operands in
-    let is = sym (c .in-Some .ensures tt) in
-    (
+    let is = sym (c .in-Some .ensures tt) in (
       (λ e. only-read (c .args .term) o is (λ j. getD (c .args .homes .now) j 0 ≤ c .args .home) (c .if-homes-operands .taken) (leb-true _ _ e)),
       (λ h. le-leb _ _ (h (o .right) (right-read (c .args .term) o is))),
     )
@@ -30,8 +29,7 @@ returns-then-homes-operands c =
 pub returns-else-homes-operands : need.returns-else-homes-operands
 returns-else-homes-operands c =
     let o = c .in-Some .operands in
-    let is = sym (c .in-Some .ensures tt) in
-    (
+    let is = sym (c .in-Some .ensures tt) in (
       (λ e. absurd (omega (arith, leb-true (getD (c .args .homes .now) (o .left) 0) (c .args .home) e))),
       (λ h. le-leb _ _ (h (o .left) (left-read (c .args .term) o is))),
     )

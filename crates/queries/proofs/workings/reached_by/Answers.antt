@@ -38,15 +38,15 @@ loop-i-again c =
     let here = c .loop-i-test .taken in
     let term = getD-default terms i (Mark 0) Lowest here in
     let now : c .touches .result ≡ touched homes (c .args .tag) (reached-before homes terms (c .args .tag) i) (getD terms i Lowest) =
-        c .touches .ensures ∙ touched-now homes terms (c .args .tag) i (c .args .blocks) row (c .loop-i .inv .1) (c .deref .result .now) (getD terms i (Mark 0)) (c .deref .ensures .value) term (λ j r. c .pre .blocks j (c .pre .operands i j here (subst (λ t. Reads t j) term r)))
+    c .touches .ensures ∙ touched-now homes terms (c .args .tag) i (c .args .blocks) row (c .loop-i .inv .1) (c .deref .result .now) (getD terms i (Mark 0)) (c .deref .ensures .value) term (λ j r. c .pre .blocks j (c .pre .operands i j here (subst (λ t. Reads t j) term r)))
     in
     elim (c .if-touches .came) [
-      then-touches w ↦
-        (let e : vec-items (c .if-touches .reached) ≡ set row (getD homes i 0) true = ap vec-items (w .reached-is) in
-        (ap length e ∙ length-set row (getD homes i 0) true ∙ c .loop-i .inv .0, λ b h. ap (λ l. getD l b false) e ∙ reached-set homes terms (c .args .tag) i (c .args .blocks) row (c .loop-i .inv .1) (c .loop-i .inv .0) (c .pre .blocks i here) (sym now ∙ w .if-touches .taken) b h))
-    | else-touches w ↦
-        (let e : vec-items (c .if-touches .reached) ≡ row = ap vec-items (w .reached-is) in
-        (ap length e ∙ c .loop-i .inv .0, λ b h. ap (λ l. getD l b false) e ∙ reached-kept homes terms (c .args .tag) i (c .args .blocks) row (c .loop-i .inv .1) (sym now ∙ w .if-touches .left) b h))
+      | then-touches w ↦
+          (let e : vec-items (c .if-touches .reached) ≡ set row (getD homes i 0) true = ap vec-items (w .reached-is) in
+          (ap length e ∙ length-set row (getD homes i 0) true ∙ c .loop-i .inv .0, λ b h. ap (λ l. getD l b false) e ∙ reached-set homes terms (c .args .tag) i (c .args .blocks) row (c .loop-i .inv .1) (c .loop-i .inv .0) (c .pre .blocks i here) (sym now ∙ w .if-touches .taken) b h))
+      | else-touches w ↦
+          (let e : vec-items (c .if-touches .reached) ≡ row = ap vec-items (w .reached-is) in
+          (ap length e ∙ c .loop-i .inv .0, λ b h. ap (λ l. getD l b false) e ∙ reached-kept homes terms (c .args .tag) i (c .args .blocks) row (c .loop-i .inv .1) (sym now ∙ w .if-touches .left) b h))
     ]
 
 pub returns : need.returns

@@ -17,8 +17,7 @@ use Rattle.queries.proofs.workings.readers_of.Needs as need
 pub loop-i-holds : need.loop-i-holds
 loop-i-holds c =
     let n = length (c .args .terms .now) in
-    let e = c .in-Continue-readers .ensures tt in
-    (
+    let e = c .in-Continue-readers .ensures tt in (
       sym (length-map (vec-items (c .in-Continue-readers .readers)) vec-items) ∙ ap length e ∙ length-listed (λ _. []) n,
       λ t h. ap (λ l. getD l t []) e ∙ getD-listed (λ _. []) n t [] h,
     )
@@ -35,13 +34,12 @@ loop-i-again c =
     let homes = c .args .homes .now in
     let terms = c .args .terms .now in
     let i = c .loop-i .i in
-    let done = c .in-Continue-note-operands .ensures tt in
-    (
+    let done = c .in-Continue-note-operands .ensures tt in (
       omega (arith, done .len),
       λ t h. done .lists t
-      ∙ ap (λ m. noted (eqb (getD homes i 0) (getD homes t 0) && either-is (operands-of m) t) (getD (map vec-items (vec-items (c .loop-i .readers))) t []) i) (getD-default terms i (Mark 0) Lowest (c .loop-i-test .taken))
-      ∙ ap (λ l. noted (reads-within homes terms t i) l i) (c .loop-i .inv .1 t h)
-      ∙ readers-more homes terms i t,
+          ∙ ap (λ m. noted (eqb (getD homes i 0) (getD homes t 0) && either-is (operands-of m) t) (getD (map vec-items (vec-items (c .loop-i .readers))) t []) i) (getD-default terms i (Mark 0) Lowest (c .loop-i-test .taken))
+          ∙ ap (λ l. noted (reads-within homes terms t i) l i) (c .loop-i .inv .1 t h)
+          ∙ readers-more homes terms i t,
     )
 
 pub returns : need.returns

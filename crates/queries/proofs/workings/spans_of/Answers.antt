@@ -22,8 +22,7 @@ pub loop-block-again : need.loop-block-again
 loop-block-again c =
     let blocks = c .args .blocks .now in
     let i = c .loop-block .block-index in
-    let new : ℕ → Span = λ first. record { first = first; end = first + getD blocks i no-block .terms } in
-    (
+    let new : ℕ → Span = λ first. record { first = first; end = first + getD blocks i no-block .terms } in (
       omega (arith, before-more blocks i (c .loop-block-test .taken), c .loop-block .inv .0),
       listed-push (span-of (table 0 blocks [])) i _ _ (new (c .loop-block .first)) (c .loop-block .inv .1) (ap new (c .loop-block .inv .0)) (c .in-Continue-push .ensures tt .items),
     )

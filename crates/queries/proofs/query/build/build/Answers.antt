@@ -52,16 +52,37 @@ ghost-result c =
     let same : vec-items (c .in-Continue-homes .homes) ≡ c .args .homes .now = c .in-Continue-homes .ensures tt .made .0 in
     let spans = c .in-Continue-spans .ensures tt ∙ ap (λ bs. listed (span-of (table 0 bs [])) (length bs)) (c .deref .ensures .value) in
     let readers = c .in-Continue-readers .ensures tt ∙ ap₂ (λ hs ts. listed (readers-before hs ts (length ts)) (length ts)) (sym same) (c .deref-2 .ensures .value) in
-    let reached = c .in-Continue-reached .ensures tt ∙ ap₃ (λ hs ts n. listed (λ tag. listed (reached-before hs ts tag (length ts)) n) (c .args .tags)) (sym same) (c .deref-3 .ensures .value) (c .len .ensures ∙ c .args .blocks .ok .0) in
-    (
-      rules .sized .few-tags, (
-        rules .sized .some-term, (
-          rules .sized .few-terms, (
-            rules .sized .no-empty-block, (
-              rules .sized .all-dealt, (
-                rules .tag-stands, (
-                  rules .operands-stand, (
-                    rules .no-later-block, (
-                      rules .turn-earlier, (
-                        same ∙ c .pre .homes, (
-                          spans, (readers, (reached, tt)))))))))))))
+    let reached = c .in-Continue-reached .ensures tt ∙ ap₃ (λ hs ts n. listed (λ tag. listed (reached-before hs ts tag (length ts)) n) (c .args .tags)) (sym same) (c .deref-3 .ensures .value) (c .len .ensures ∙ c .args .blocks .ok .0) in (
+      rules .sized .few-tags,
+      (
+        rules .sized .some-term,
+        (
+          rules .sized .few-terms,
+          (
+            rules .sized .no-empty-block,
+            (
+              rules .sized .all-dealt,
+              (
+                rules .tag-stands,
+                (
+                  rules .operands-stand,
+                  (
+                    rules .no-later-block,
+                    (
+                      rules .turn-earlier,
+                      (
+                        same ∙ c .pre .homes,
+                        (
+                          spans,
+                          (readers, (reached, tt)),
+                        ),
+                      ),
+                    ),
+                  ),
+                ),
+              ),
+            ),
+          ),
+        ),
+      ),
+    )
