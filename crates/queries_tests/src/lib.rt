@@ -1,0 +1,3 @@
+//! Admission and the questions to a query, tried on examples.
+#[cfg(test)]
+mod tests;
