@@ -1,9 +1,11 @@
 //! The junction selector: a model of depths on standard input, its neighbours on standard output.
 mod listing;
+mod sample;
 
 use files::depths::TextFault;
 use files::depths::read_depths;
 use listing::print_neighbours;
+use sample::print_sample;
 use shapes::depth::DepthShape;
 use shapes::refusal::ShapeRefusal;
 use std::error::AnyError;
@@ -72,7 +74,7 @@ fn shape_of(rt: &LibcRuntime, depths: &[u16]) -> Result<DepthShape, Refusal> {
 fn list(rt: &LibcRuntime, shape: DepthShape) -> Result<(), AnyError> {
     let nodes = print_neighbours(rt, shape)?;
     println!(rt, "{nodes} nodes read: a lawful shape")?;
-    Ok(())
+    print_sample(rt)
 }
 
 fn refuse(rt: &LibcRuntime, nodes: usize, refusal: Refusal) -> Result<(), AnyError> {
