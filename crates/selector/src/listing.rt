@@ -49,16 +49,15 @@ fn around<S: Shape>(shape: &S, node: usize) -> Neighbours {
 }
 
 /// One line for each node: its neighbours as listed, then those in the mirror. Answers how many.
-pub fn print_neighbours(rt: &LibcRuntime, shape: DepthShape) -> io::Result<usize> {
+pub fn print_neighbours(rt: &LibcRuntime, mirrored: &Mirrored<DepthShape>) -> io::Result<usize> {
     println!(rt, "        as listed                      mirrored")?;
     println!(
         rt,
         " node  first   next  owner   prev   |  first   next  owner   prev"
     )?;
-    let mirrored = Mirrored::over(shape);
     for node in 0..mirrored.node_count() {
         let listed = around(mirrored.inner(), node);
-        let turned = around(&mirrored, node);
+        let turned = around(mirrored, node);
         println!(rt, "{node:>5}{listed}   |{turned}")?;
     }
     Ok(mirrored.node_count())

@@ -1,4 +1,5 @@
 //! The junction selector: a model of depths on standard input, its neighbours on standard output.
+mod audit;
 mod listing;
 mod sample;
 
@@ -7,6 +8,8 @@ use files::depths::read_depths;
 use listing::print_neighbours;
 use sample::print_sample;
 use shapes::depth::DepthShape;
+use shapes::depth::DepthShapes;
+use shapes::mirrored::Mirrored;
 use shapes::refusal::ShapeRefusal;
 use std::error::AnyError;
 use std::io::Read;
@@ -72,9 +75,10 @@ fn shape_of(rt: &LibcRuntime, depths: &[u16]) -> Result<DepthShape, Refusal> {
 }
 
 fn list(rt: &LibcRuntime, shape: DepthShape) -> Result<(), AnyError> {
-    let nodes = print_neighbours(rt, shape)?;
+    let mirrored = Mirrored::over(shape);
+    let nodes = print_neighbours(rt, &mirrored)?;
     println!(rt, "{nodes} nodes read: a lawful shape")?;
-    print_sample(rt)
+    print_sample(rt, mirrored.inner())
 }
 
 fn refuse(rt: &LibcRuntime, nodes: usize, refusal: Refusal) -> Result<(), AnyError> {

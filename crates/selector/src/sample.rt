@@ -1,4 +1,5 @@
 //! A small query, put into words.
+use crate::audit::print_audit;
 use queries::block::Solution;
 use queries::query::Query;
 use queries::refusal::QueryRefusal;
@@ -6,6 +7,7 @@ use queries::rows::BlockRow;
 use queries::rows::TermRow;
 use queries::term::Term;
 use shapes::axis::Axis;
+use shapes::depth::DepthShape;
 use std::error::AnyError;
 use std::fmt;
 
@@ -70,14 +72,17 @@ fn axis_name(axis: Axis) -> &'static str {
     }
 }
 
-/// Admits the sample, and prints its definitions and what admission answered.
-pub fn print_sample(rt: &LibcRuntime) -> Result<(), AnyError> {
+/// Admits the sample, prints its definitions and what admission answered, and audits the model with it.
+pub fn print_sample(rt: &LibcRuntime, shape: &DepthShape) -> Result<(), AnyError> {
     let mut query = match Query::new(rt.alloc()) {
         Ok(query) => query,
         Err(refusal) => return print_refusal(rt, refusal),
     };
     match query.admit(rt.alloc(), 1, &BLOCKS, &TERMS) {
-        Ok(()) => print_query(rt, &query),
+        Ok(()) => {
+            print_query(rt, &query)?;
+            print_audit(rt, shape, &query)
+        }
         Err(refusal) => print_refusal(rt, refusal),
     }
 }

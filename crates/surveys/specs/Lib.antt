@@ -1,6 +1,17 @@
 pub mod Calls
+pub mod Conducting
+pub mod Held
+pub mod Opens
 pub mod Places
 pub mod Promise
+pub mod Reading
 pub mod Readings
 pub mod Refusals
+pub mod Resets
+pub mod Retagging
 pub mod Rules
+pub mod Running
+pub mod Standing
+pub mod StepParts
+pub mod Stepping
+pub mod Waking
