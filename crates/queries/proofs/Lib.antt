@@ -7,3 +7,4 @@ pub mod Reached
 pub mod Reaching
 pub mod Readers
 pub mod Rules
+pub mod Tested

@@ -15,11 +15,11 @@ use Rattle.queries.specs.Operands.{operands-of, either-is}
 use Rattle.queries.specs.Table.{Reads, by-turn, by-meet-left, by-meet-right, by-join-left, by-join-right, by-some, by-every}
 
 -- P of both operands, if there are any
-abbrev pub Of-both : (ℕ → Type 0) → Term → Type 0
+abbrev Of-both : (ℕ → Type 0) → Term → Type 0
 Of-both P t = Cases (operands-of t) (Unit {0}) (λ o. P (o .left) × P (o .right))
 
--- that is P of all that is read
-pub of-both : (P : ℕ → Type 0) (t : Term) → ((j : ℕ) → Reads t j → P j) → Of-both P t
+-- where P holds of all that is read
+of-both : (P : ℕ → Type 0) (t : Term) → ((j : ℕ) → Reads t j → P j) → Of-both P t
 of-both P (Mark a) h = tt
 of-both P (Turn a) h = (h a (by-turn a), h a (by-turn a))
 of-both P (Meet a b) h = (h a (by-meet-left a b), h b (by-meet-right a b))
@@ -28,15 +28,6 @@ of-both P (SomeNeighbour x a) h = (h a (by-some x a), h a (by-some x a))
 of-both P (EveryNeighbour x a) h = (h a (by-every x a), h a (by-every x a))
 of-both P Lowest h = tt
 of-both P Highest h = tt
-
-pub all-read : (P : ℕ → Type 0) {t : Term} {j : ℕ} → Of-both P t → Reads t j → P j
-all-read P h (by-turn a) = h .0
-all-read P h (by-meet-left a b) = h .0
-all-read P h (by-meet-right a b) = h .1
-all-read P h (by-join-left a b) = h .0
-all-read P h (by-join-right a b) = h .1
-all-read P h (by-some x a) = h .0
-all-read P h (by-every x a) = h .0
 
 either-left : (a b : ℕ) → (eqb a a || eqb b a) ≡ true
 either-left a b = or-left (eqb a a) (eqb b a) (eq-eqb a a refl)
@@ -74,12 +65,6 @@ module _ (t : Term) (o : Operands) (e : operands-of t ≡ Some o) where
 
   pub right-read : Reads t (o .right)
   right-read = cases-at-some (Unit {0}) (λ p. Reads t (p .left) × Reads t (p .right)) o e (of-both (Reads t) t (λ j r. r)) .1
-
-  pub only-read : (P : ℕ → Type 0) → P (o .left) → P (o .right) → (j : ℕ) → Reads t j → P j
-  only-read P l r j reads = all-read P (subst (λ p. Cases p (Unit {0}) (λ q. P (q .left) × P (q .right))) (sym e) (l, r)) reads
-
-  pub no-mark : (a : ℕ) → t ≡ Mark a → ⊥
-  no-mark a h = let z : isSome (Some o) ≡ false = ap isSome (sym e ∙ ap operands-of h) in false≢true (sym z)
 
 -- a term with none reads nothing
 pub none-read : (t : Term) → operands-of t ≡ None → (j : ℕ) → Reads t j → ⊥

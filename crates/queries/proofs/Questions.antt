@@ -30,7 +30,7 @@ rules-kept q = record {
 
 -- what a query keeps for a tag: whether it reaches each block
 abbrev pub reached-row : Query → ℕ → List Bool
-reached-row q tag = listed (reached-before (vec-items (q .homes)) (table-of q .terms) tag (length (table-of q .terms))) (length (table-of q .blocks))
+reached-row q tag = listed (reached-before (vec-items (q .assigned)) (table-of q .terms) tag (length (table-of q .terms))) (length (table-of q .blocks))
 
 module _ (q : Table) (all-dealt : total (q .blocks) ≡ length (q .terms)) where
   -- the terms of a block
@@ -50,21 +50,21 @@ module _ (q : Table) (all-dealt : total (q .blocks) ≡ length (q .terms)) where
   }
 
 -- the readers of a term, by the block of each term
-module _ (q : Table) (homes : List ℕ) (is : homes ≡ listed (block-of q) (length (q .terms))) where
-  home : (i : ℕ) → i < length (q .terms) → getD homes i 0 ≡ block-of q i
-  home i h = ap (λ l. getD l i 0) is ∙ getD-listed (block-of q) (length (q .terms)) i 0 h
+module _ (q : Table) (assigned : List ℕ) (is : assigned ≡ listed (block-of q) (length (q .terms))) where
+  block-at : (i : ℕ) → i < length (q .terms) → getD assigned i 0 ≡ block-of q i
+  block-at i h = ap (λ l. getD l i 0) is ∙ getD-listed (block-of q) (length (q .terms)) i 0 h
 
-  pub readers-right : (t : ℕ) → t < length (q .terms) → Lists-readers q t (readers-before homes (q .terms) (length (q .terms)) t)
+  pub readers-right : (t : ℕ) → t < length (q .terms) → Lists-readers q t (readers-before assigned (q .terms) (length (q .terms)) t)
   readers-right t h = record {
-    rising = kept-rises (reads-within homes (q .terms) t) 0 (length (q .terms));
-    only = λ j has. only j (kept-only (reads-within homes (q .terms) t) (length (q .terms)) j has);
-    all = λ j r. kept-all (reads-within homes (q .terms) t) (length (q .terms)) j (r .stands) (passes j r);
+    rising = kept-rises (reads-within assigned (q .terms) t) 0 (length (q .terms));
+    only = λ j has. only j (kept-only (reads-within assigned (q .terms) t) (length (q .terms)) j has);
+    all = λ j r. kept-all (reads-within assigned (q .terms) t) (length (q .terms)) j (r .stands) (passes j r);
   }
     where
-      only : (j : ℕ) → (j < length (q .terms)) × (reads-within homes (q .terms) t j ≡ true) → Reader q t j
+      only : (j : ℕ) → (j < length (q .terms)) × (reads-within assigned (q .terms) t j ≡ true) → Reader q t j
       only j (there, e) =
-          let both = and-parts (eqb (getD homes j 0) (getD homes t 0)) (either-is (operands-of (term-at q j)) t) e in
-          record { stands = there; same-block = sym (home j there) ∙ eqb-true _ _ (both .0) ∙ home t h; reads = test-reads (term-at q j) t (both .1) }
+          let both = and-parts (eqb (getD assigned j 0) (getD assigned t 0)) (either-is (operands-of (term-at q j)) t) e in
+          record { stands = there; same-block = sym (block-at j there) ∙ eqb-true _ _ (both .0) ∙ block-at t h; reads = test-reads (term-at q j) t (both .1) }
 
-      passes : (j : ℕ) → Reader q t j → reads-within homes (q .terms) t j ≡ true
-      passes j r = and-from (eqb (getD homes j 0) (getD homes t 0)) (either-is (operands-of (term-at q j)) t) (eq-eqb _ _ (home j (r .stands) ∙ r .same-block ∙ sym (home t h))) (reads-test (r .reads))
+      passes : (j : ℕ) → Reader q t j → reads-within assigned (q .terms) t j ≡ true
+      passes j r = and-from (eqb (getD assigned j 0) (getD assigned t 0)) (either-is (operands-of (term-at q j)) t) (eq-eqb _ _ (block-at j (r .stands) ∙ r .same-block ∙ sym (block-at t h))) (reads-test (r .reads))

@@ -1,6 +1,6 @@
 -- Lists of readers, as a loop over the terms notes them.
-use mathlib.Core.Path.{_≡_, refl, sym, ap, subst, _∙_}
-use mathlib.Core.Bool.{Bool, true, false, cond, _&&_, _||_}
+use mathlib.Core.Path.{_≡_, refl, sym, ap, ap₂, subst, _∙_}
+use mathlib.Core.Bool.{Bool, true, false, cond, _&&_}
 use mathlib.Core.Logic.{inl, inr}
 use mathlib.Core.List.{List, [], _∷_, _++_, map}
 use Prim.Native.Nat.{ℕ, zero, suc, _+_, _<_, _≤_}
@@ -12,9 +12,11 @@ use Rattle.std.specs.Iters.{counting}
 use Rattle.std.specs.shelf.Lists.{All, Has, kept-by}
 use Rattle.std.proofs.shelf.Counted.{length-counting, getD-counting, map-counting-more}
 use Rattle.std.proofs.shelf.Elements.{all-from-getD, all-has, all-kept-by, has-append-left, has-append-right, kept-by-append, kept-by-passes}
-use Rattle.std.proofs.shelf.Lists.{append-nil, getD-set-same, getD-set-other, map-id}
+use Rattle.std.proofs.shelf.Lists.{length-set, append-nil, getD-set-same, getD-set-other, map-id}
 use Rattle.std.proofs.shelf.Tests.{false≢true, cases-lt, cases-eq, eq-eqb, ne-eqb, and-left, and-right}
 use Rattle.queries.specs.declared.term.Term.{Term}
+use Rattle.queries.specs.declared.term.Term.the-variants.{Lowest}
+use Rattle.queries.specs.Operands.{operands-of, either-is}
 use Rattle.queries.specs.Workings.{noted, reads-within, readers-before}
 
 and-true : (x y : Bool) → x ≡ true → (x && y) ≡ y
@@ -31,44 +33,44 @@ noted-set lists read j t h = elim (cases-eq read t) [ inl e ↦ here e | inr e �
     other e = rw (ne-eqb read t e) (getD-set-other lists read t _ [] (λ z. e (sym z)))
 
 -- the test on blocks at what is read is the test on blocks at t, where t is what is read
-module _ (homes : List ℕ) (read reader t : ℕ) where
-  pub within : getD homes reader 0 ≡ getD homes read 0 → (eqb (getD homes reader 0) (getD homes t 0) && eqb read t) ≡ eqb read t
+module _ (assigned : List ℕ) (read reader t : ℕ) where
+  pub within : getD assigned reader 0 ≡ getD assigned read 0 → (eqb (getD assigned reader 0) (getD assigned t 0) && eqb read t) ≡ eqb read t
   within same = elim (cases-eq read t) [
-    | inl e ↦ and-true (eqb (getD homes reader 0) (getD homes t 0)) (eqb read t) (eq-eqb _ _ (same ∙ ap (λ k. getD homes k 0) e))
-    | inr e ↦ and-right (eqb (getD homes reader 0) (getD homes t 0)) (eqb read t) (ne-eqb read t e) ∙ sym (ne-eqb read t e)
+    | inl e ↦ and-true (eqb (getD assigned reader 0) (getD assigned t 0)) (eqb read t) (eq-eqb _ _ (same ∙ ap (λ k. getD assigned k 0) e))
+    | inr e ↦ and-right (eqb (getD assigned reader 0) (getD assigned t 0)) (eqb read t) (ne-eqb read t e) ∙ sym (ne-eqb read t e)
   ]
 
-  pub apart : (getD homes reader 0 ≡ getD homes read 0 → ⊥) → (eqb (getD homes reader 0) (getD homes t 0) && eqb read t) ≡ false
+  pub apart : (getD assigned reader 0 ≡ getD assigned read 0 → ⊥) → (eqb (getD assigned reader 0) (getD assigned t 0) && eqb read t) ≡ false
   apart other = elim (cases-eq read t) [
-    | inl e ↦ and-left (eqb (getD homes reader 0) (getD homes t 0)) (eqb read t) (ne-eqb _ _ (λ z. other (z ∙ ap (λ k. getD homes k 0) (sym e))))
-    | inr e ↦ and-right (eqb (getD homes reader 0) (getD homes t 0)) (eqb read t) (ne-eqb read t e)
+    | inl e ↦ and-left (eqb (getD assigned reader 0) (getD assigned t 0)) (eqb read t) (ne-eqb _ _ (λ z. other (z ∙ ap (λ k. getD assigned k 0) (sym e))))
+    | inr e ↦ and-right (eqb (getD assigned reader 0) (getD assigned t 0)) (eqb read t) (ne-eqb read t e)
   ]
 
--- two operands noted one after the other
-pub noted-two : (same left right : Bool) (l : List ℕ) (j : ℕ) → (left ≡ true → right ≡ true → ⊥) → noted (same && right) (noted (same && left) l j) j ≡ noted (same && (left || right)) l j
-noted-two false left right l j h = refl
-noted-two true false right l j h = refl
-noted-two true true false l j h = refl
-noted-two true true true l j h = absurd (h refl refl)
+pub noted-long : (before after : List (List ℕ)) (read reader : ℕ) → after ≡ set before read (getD before read [] ++ (reader ∷ [])) → length after ≡ length before
+noted-long before after read reader e = ap length e ∙ length-set before read (getD before read [] ++ (reader ∷ []))
 
-pub noted-one : (same left right : Bool) (l : List ℕ) (j : ℕ) → right ≡ left → noted (same && left) l j ≡ noted (same && (left || right)) l j
-noted-one false left right l j h = refl
-noted-one true true right l j h = refl
-noted-one true false right l j h = rw h
+-- a reader of the same block noted
+pub noted-within : (assigned : List ℕ) (read reader : ℕ) (before after : List (List ℕ)) → after ≡ set before read (getD before read [] ++ (reader ∷ [])) → read < length before → getD assigned reader 0 ≡ getD assigned read 0 → (t : ℕ) → getD after t [] ≡ noted (eqb (getD assigned reader 0) (getD assigned t 0) && eqb read t) (getD before t []) reader
+noted-within assigned read reader before after e h same t = ap (λ l. getD l t []) e ∙ noted-set before read reader t h ∙ ap (λ b. noted b (getD before t []) reader) (sym (within assigned read reader t same))
 
 -- the next term
 counting-more : (n : ℕ) → counting 0 (n + 1) ≡ counting 0 n ++ (n ∷ [])
 counting-more n = sym (map-id (counting 0 (n + 1))) ∙ map-counting-more (λ k. k) 0 n n (omega arith) ∙ ap (λ l. l ++ (n ∷ [])) (map-id (counting 0 n))
 
-pub readers-more : (homes : List ℕ) (terms : List Term) (n t : ℕ) → noted (reads-within homes terms t n) (readers-before homes terms n t) n ≡ readers-before homes terms (n + 1) t
-readers-more homes terms n t = sym (ap (kept-by test) (counting-more n) ∙ kept-by-append test (counting 0 n) (n ∷ []) ∙ last (test n) (readers-before homes terms n t))
+pub readers-more : (assigned : List ℕ) (terms : List Term) (n t : ℕ) → noted (reads-within assigned terms t n) (readers-before assigned terms n t) n ≡ readers-before assigned terms (n + 1) t
+readers-more assigned terms n t = sym (ap (kept-by test) (counting-more n) ∙ kept-by-append test (counting 0 n) (n ∷ []) ∙ last (test n) (readers-before assigned terms n t))
   where
     test : ℕ → Bool
-    test = reads-within homes terms t
+    test = reads-within assigned terms t
 
     last : (b : Bool) (l : List ℕ) → l ++ cond b (n ∷ []) [] ≡ noted b l n
     last true l = refl
     last false l = append-nil l
+
+-- the next term noted at the lists so far
+pub readers-step : (assigned : List ℕ) (terms : List Term) (n t : ℕ) (term : Term) (before after : List ℕ) → after ≡ noted (eqb (getD assigned n 0) (getD assigned t 0) && either-is (operands-of term) t) before n → term ≡ getD terms n Lowest → before ≡ readers-before assigned terms n t → after ≡ readers-before assigned terms (n + 1) t
+readers-step assigned terms n t term before after e is so-far =
+    e ∙ ap₂ (λ m l. noted (eqb (getD assigned n 0) (getD assigned t 0) && either-is (operands-of m) t) l n) is so-far ∙ readers-more assigned terms n t
 
 -- the list of what a test passes among the first n numbers
 module _ (p : ℕ → Bool) where

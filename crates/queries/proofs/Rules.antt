@@ -17,10 +17,11 @@ use Rattle.queries.specs.declared.rows.TermRow.{TermRow}
 use Rattle.queries.specs.declared.term.Term.{Term}
 use Rattle.queries.specs.declared.term.Term.the-variants.{Turn, Lowest}
 use Rattle.queries.specs.Admission.{Stands, Fits, Framed, Fine-before, Refused-for}
-use Rattle.queries.specs.Checks.{Homes, Stands-alone, Reads-up-to, Turns-before, Faulty, First-faulty}
+use Rattle.queries.specs.Checks.{Assigned, standing, reading-up-to, Turns-before, Faulty, First-faulty}
 use Rattle.queries.specs.Rows.{Rows, rows, term-in, told}
 use Rattle.queries.specs.Table.{Reads, total, term-at, block-of, No-later-block, Turn-earlier}
 use Rattle.queries.proofs.Operands.{turn-read}
+use Rattle.queries.proofs.Tested.{Stands-alone, Reads-up-to, standing-decided, reading-decided}
 
 -- the row that a reader of rows sees past the end
 abbrev none : TermRow
@@ -40,30 +41,39 @@ module _ (r : Rows) (i : ℕ) (here : i < length (r .terms)) where
     as-many : length (told r .terms) ≡ length (r .terms)
     as-many = length-map (r .terms) (λ row. valueOr (term-in row) Lowest)
 
-    pub stands-there : Stands-alone (r .tags) (length (r .terms)) t → Stands r i
-    stands-there s = record {
+    pub stands-there : true ≡ standing (r .tags) (length (r .terms)) t → Stands r i
+    stands-there told-so = record {
       known = known;
       tag = λ a e. s .tag a (sym told-term ∙ e);
       operands = λ j reads. rw as-many (s .operands j (subst (λ u. Reads u j) told-term reads));
     }
+      where
+        s : Stands-alone (r .tags) (length (r .terms)) t
+        s = standing-decided (r .tags) (length (r .terms)) t .0 (sym told-so)
 
-    pub stands-here : Stands r i → Stands-alone (r .tags) (length (r .terms)) t
+    stands-here : Stands r i → Stands-alone (r .tags) (length (r .terms)) t
     stands-here s = record {
       tag = λ a e. s .tag a (told-term ∙ e);
       operands = λ j reads. subst (λ n. j < n) as-many (s .operands j (subst (λ u. Reads u j) (sym told-term) reads));
     }
 
-    module _ (homes : List ℕ) (right : Homes r homes) (s : Stands r i) where
-      pub later-there : Reads-up-to homes (getD homes i 0) t → No-later-block (told r) i
-      later-there h j reads = let reads′ = subst (λ u. Reads u j) told-term reads in omega (arith, right j (stands-here s .operands j reads′), right i here, h j reads′)
+    pub stands-not : false ≡ standing (r .tags) (length (r .terms)) t → Stands r i → ⊥
+    stands-not other s = false≢true (other ∙ standing-decided (r .tags) (length (r .terms)) t .1 (stands-here s))
 
-      pub later-here : No-later-block (told r) i → Reads-up-to homes (getD homes i 0) t
+    module _ (assigned : List ℕ) (right : Assigned r assigned) (s : Stands r i) where
+      pub later-there : true ≡ reading-up-to assigned (getD assigned i 0) t → No-later-block (told r) i
+      later-there told-so j reads = let h = reading-decided assigned (getD assigned i 0) t .0 (sym told-so) in let reads′ = subst (λ u. Reads u j) told-term reads in omega (arith, right j (stands-here s .operands j reads′), right i here, h j reads′)
+
+      later-here : No-later-block (told r) i → Reads-up-to assigned (getD assigned i 0) t
       later-here h j reads = omega (arith, right j (stands-here s .operands j reads), right i here, h j (subst (λ u. Reads u j) (sym told-term) reads))
 
-      pub turn-there : Turns-before homes (getD homes i 0) t → Turn-earlier (told r) i
+      pub later-not : false ≡ reading-up-to assigned (getD assigned i 0) t → No-later-block (told r) i → ⊥
+      later-not other h = false≢true (other ∙ reading-decided assigned (getD assigned i 0) t .1 (later-here h))
+
+      pub turn-there : Turns-before assigned (getD assigned i 0) t → Turn-earlier (told r) i
       turn-there h a e = let e′ = sym told-term ∙ e in omega (arith, right a (stands-here s .operands a (turn-read t a e′)), right i here, h a e′)
 
-      pub turn-here : Turn-earlier (told r) i → Turns-before homes (getD homes i 0) t
+      pub turn-here : Turn-earlier (told r) i → Turns-before assigned (getD assigned i 0) t
       turn-here h a e = omega (arith, right a (stands-here s .operands a (turn-read t a e)), right i here, h a (told-term ∙ e))
 
 -- a fault in a term of a table whose frame is right
@@ -87,5 +97,5 @@ module _ (r : Rows) (framed : Framed r) where
   refused NoMemory first = absurd (first .faulty)
 
   -- a list that has the block of each term that is dealt
-  pub homes-dealt : (homes : List ℕ) → ((i : ℕ) → i < total (told r .blocks) → getD homes i 0 ≡ block-of (told r) i) → Homes r homes
-  homes-dealt homes h i there = h i (subst (λ n. i < n) (sym (framed .sum)) there)
+  pub assigned-dealt : (assigned : List ℕ) → ((i : ℕ) → i < total (told r .blocks) → getD assigned i 0 ≡ block-of (told r) i) → Assigned r assigned
+  assigned-dealt assigned h i there = h i (subst (λ n. i < n) (sym (framed .sum)) there)

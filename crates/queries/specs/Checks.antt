@@ -1,30 +1,52 @@
 -- What the parts of admission find.
 use mathlib.Core.Path.{_≡_}
+use mathlib.Core.Bool.{Bool, true, _&&_}
 use mathlib.Core.List.{List}
-use Prim.Native.Nat.{ℕ, _<_, _≤_}
+use Prim.Native.Nat.{ℕ, _<_}
+use lib.Dec.{leb, ltb}
 use lib.ListN.{length, getD}
+use Rattle.std.specs.declared.option.Option.{Option}
+use Rattle.std.specs.declared.option.Option.the-variants.{None, Some}
 use Rattle.queries.specs.declared.refusal.QueryRefusal.{QueryRefusal}
 use Rattle.queries.specs.declared.refusal.QueryRefusal.the-variants.{Sizes, BadBlock, BlockSum, BadTerm, LaterBlock, OwnTurn, NoMemory}
+use Rattle.queries.specs.declared.term.Operands.{Operands}
 use Rattle.queries.specs.declared.term.Term.{Term}
-use Rattle.queries.specs.declared.term.Term.the-variants.{Mark, Turn}
+use Rattle.queries.specs.declared.term.Term.the-variants.{Mark, Turn, Meet, Join, SomeNeighbour, EveryNeighbour, Lowest, Highest}
 use Rattle.queries.specs.Admission.{Stands, Fits}
+use Rattle.queries.specs.Operands.{operands-of}
 use Rattle.queries.specs.Rows.{Rows, told}
-use Rattle.queries.specs.Table.{Reads, block-of, No-later-block, Turn-earlier}
+use Rattle.queries.specs.Table.{block-of, No-later-block, Turn-earlier}
 
 -- a list has the block of each term
-abbrev pub Homes : Rows → List ℕ → Type 0
-Homes r homes = (i : ℕ) → i < length (r .terms) → getD homes i 0 ≡ block-of (told r) i
+abbrev pub Assigned : Rows → List ℕ → Type 0
+Assigned r assigned = (i : ℕ) → i < length (r .terms) → getD assigned i 0 ≡ block-of (told r) i
 
--- the rules for a term by itself, and with the block of each term
-pub record Stands-alone (tags count : ℕ) (term : Term) : Type 0 where
-  pub tag : (a : ℕ) → term ≡ Mark a → a < tags
-  pub operands : (j : ℕ) → Reads term j → j < count
+-- a test of both operands, or another where there are none
+abbrev pub both-in : Option Operands → Bool → (ℕ → Bool) → Bool
+both-in None other test = other
+both-in (Some o) other test = test (o .left) && test (o .right)
 
-abbrev pub Reads-up-to : List ℕ → ℕ → Term → Type 0
-Reads-up-to homes home term = (j : ℕ) → Reads term j → getD homes j 0 ≤ home
+-- whether a term's tag and operands are there
+abbrev pub tag-below : Term → ℕ → Bool
+tag-below (Mark a) tags = ltb a tags
+tag-below (Turn a) tags = true
+tag-below (Meet a b) tags = true
+tag-below (Join a b) tags = true
+tag-below (SomeNeighbour x a) tags = true
+tag-below (EveryNeighbour x a) tags = true
+tag-below Lowest tags = true
+tag-below Highest tags = true
 
+abbrev pub standing : ℕ → ℕ → Term → Bool
+standing tags count term = both-in (operands-of term) (tag-below term tags) (λ j. ltb j count)
+
+-- whether a term reads no block past this one
+abbrev pub reading-up-to : List ℕ → ℕ → Term → Bool
+reading-up-to assigned block term = both-in (operands-of term) true (λ j. leb (getD assigned j 0) block)
+
+-- a turn reads a block before this one
 abbrev pub Turns-before : List ℕ → ℕ → Term → Type 0
-Turns-before homes home term = (a : ℕ) → term ≡ Turn a → getD homes a 0 < home
+Turns-before assigned block term = (a : ℕ) → term ≡ Turn a → getD assigned a 0 < block
 
 -- the first rule that term i breaks
 abbrev pub Faulty : Rows → ℕ → QueryRefusal → Type 0

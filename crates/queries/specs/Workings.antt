@@ -24,15 +24,15 @@ listed f n = map f (counting 0 n)
 abbrev pub span-of : Table → ℕ → Span
 span-of q b = record { first = total (take b (q .blocks)); end = total (take b (q .blocks)) + blocks-terms q b }
 
--- below, homes has the block of each term
+-- below, assigned has the block of each term
 
 -- whether term j is of the block of term t, and reads it
 abbrev pub reads-within : List ℕ → List Term → ℕ → ℕ → Bool
-reads-within homes terms t j = eqb (getD homes j 0) (getD homes t 0) && either-is (operands-of (getD terms j Lowest)) t
+reads-within assigned terms t j = eqb (getD assigned j 0) (getD assigned t 0) && either-is (operands-of (getD terms j Lowest)) t
 
 -- of the first n terms, those that are of the block of term t and read it
 abbrev pub readers-before : List ℕ → List Term → ℕ → ℕ → List ℕ
-readers-before homes terms n t = kept-by (reads-within homes terms t) (counting 0 n)
+readers-before assigned terms n t = kept-by (reads-within assigned terms t) (counting 0 n)
 
 -- a list with one more at its end, where a test says so
 abbrev pub noted : Bool → List ℕ → ℕ → List ℕ
@@ -44,9 +44,9 @@ touching None mark reached = mark
 touching (Some o) mark reached = reached (o .left) || reached (o .right)
 
 abbrev pub touched : List ℕ → ℕ → (ℕ → Bool) → Term → Bool
-touched homes tag reached term = touching (operands-of term) (marks term tag) (λ j. reached (getD homes j 0))
+touched assigned tag reached term = touching (operands-of term) (marks term tag) (λ j. reached (getD assigned j 0))
 
 -- whether a tag reaches a block by the first n terms
 abbrev pub reached-before : List ℕ → List Term → ℕ → ℕ → ℕ → Bool
-reached-before homes terms tag zero b = false
-reached-before homes terms tag (suc n) b = reached-before homes terms tag n b || (eqb (getD homes n 0) b && touched homes tag (reached-before homes terms tag n) (getD terms n Lowest))
+reached-before assigned terms tag zero b = false
+reached-before assigned terms tag (suc n) b = reached-before assigned terms tag n b || (eqb (getD assigned n 0) b && touched assigned tag (reached-before assigned terms tag n) (getD terms n Lowest))

@@ -8,7 +8,7 @@ ghost use Rattle.std.specs.Orderings.{Decides};
 ghost use Rattle.std.specs.Results.{Cases};
 ghost use Rattle.queries.specs.declared.rows.BlockRow.{BlockRow};
 ghost use Rattle.queries.specs.Admission.{Row-fits, Framed, Admissible, Fits, Refused-for};
-ghost use Rattle.queries.specs.Checks.{Homes, Stands-alone, Reads-up-to, Turns-before, Faulty, First-faulty};
+ghost use Rattle.queries.specs.Checks.{Assigned, standing, reading-up-to, Turns-before, Faulty, First-faulty};
 ghost use Rattle.queries.specs.Rows.{rows, no-row, block-in};
 ghost use Rattle.queries.specs.Table.{Reads, total, dealt};
 use crate::refusal::QueryRefusal;
@@ -18,7 +18,7 @@ use crate::term::Term;
 
 const MOST_TAGS: u32 = 16;
 
-pub const MOST_TERMS: usize = 64;
+pub(crate) const MOST_TERMS: usize = 64;
 
 /// The first block that is empty or of an unknown kind.
 fn bad_block(blocks: &[BlockRow]) -> Option<usize>
@@ -44,31 +44,31 @@ fn term_sum(blocks: &[BlockRow]) -> usize
 }
 
 /// Writes the block of each term.
-fn deal(blocks: &[BlockRow], homes: &mut [usize])
-    requires { ⌜ total (map block-in (now blocks)) ≤ length (now homes) ⌝ }
-    ensures { λ _. ⌜ ((i : ℕ) → i < total (map block-in (now (blocks .entry))) → getD (now (homes .exit)) i 0 ≡ dealt (map block-in (now (blocks .entry))) i) ⌝ }
+fn deal(blocks: &[BlockRow], assigned: &mut [usize])
+    requires { ⌜ total (map block-in (now blocks)) ≤ length (now assigned) ⌝ }
+    ensures { λ _. ⌜ ((i : ℕ) → i < total (map block-in (now (blocks .entry))) → getD (now (assigned .exit)) i 0 ≡ dealt (map block-in (now (blocks .entry))) i) ⌝ }
 {
     let mut first = 0;
     for (i, row) in blocks.iter().enumerate() {
         let end = first + row.terms as usize;
-        fill(homes, first, end, i);
+        fill(assigned, first, end, i);
         first = end;
     }
 }
 
-fn fill(homes: &mut [usize], first: usize, end: usize, home: usize)
-    requires { ⌜ end ≤ length (now homes) ⌝ }
-    ensures inside { λ _. ⌜ ((k : ℕ) → first ≤ k → k < end → getD (now (homes .exit)) k 0 ≡ home) ⌝ }
-    ensures before { λ _. ⌜ ((k : ℕ) → k < first → getD (now (homes .exit)) k 0 ≡ getD (now (homes .entry)) k 0) ⌝ }
+fn fill(assigned: &mut [usize], first: usize, end: usize, block: usize)
+    requires { ⌜ end ≤ length (now assigned) ⌝ }
+    ensures inside { λ _. ⌜ ((k : ℕ) → first ≤ k → k < end → getD (now (assigned .exit)) k 0 ≡ block) ⌝ }
+    ensures before { λ _. ⌜ ((k : ℕ) → k < first → getD (now (assigned .exit)) k 0 ≡ getD (now (assigned .entry)) k 0) ⌝ }
 {
     for k in first..end {
-        homes[k] = home;
+        assigned[k] = block;
     }
 }
 
 /// Whether a term's tag and operands are there.
 fn stands(term: Term, tags: usize, count: usize) -> bool
-    ensures { λ r. ⌜ Decides r (Stands-alone tags count term) ⌝ }
+    ensures { λ r. ⌜ r ≡ standing tags count term ⌝ }
 {
     match term.operands() {
         Some(operands) => operands.left < count && operands.right < count,
@@ -79,33 +79,38 @@ fn stands(term: Term, tags: usize, count: usize) -> bool
     }
 }
 
-/// Whether a term of the block `home` reads no later one.
-fn reads_up_to(term: Term, homes: &[usize], home: usize) -> bool
-    requires { ⌜ ((j : ℕ) → Reads term j → j < length (now homes)) ⌝ }
-    ensures { λ r. ⌜ Decides r (Reads-up-to (now (homes .entry)) home term) ⌝ }
+/// Whether a term of the block `block` reads no later one.
+fn reads_up_to(term: Term, assigned: &[usize], block: usize) -> bool
+    requires { ⌜ ((j : ℕ) → Reads term j → j < length (now assigned)) ⌝ }
+    ensures { λ r. ⌜ r ≡ reading-up-to (now (assigned .entry)) block term ⌝ }
 {
     match term.operands() {
-        Some(operands) => homes[operands.left] <= home && homes[operands.right] <= home,
+        Some(operands) => assigned[operands.left] <= block && assigned[operands.right] <= block,
         None => true,
     }
 }
 
-/// Whether a term of the block `home`, if a turn, reads an earlier one.
-fn turns_before(term: Term, homes: &[usize], home: usize) -> bool
-    requires { ⌜ ((j : ℕ) → Reads term j → j < length (now homes)) ⌝ }
-    ensures { λ r. ⌜ Decides r (Turns-before (now (homes .entry)) home term) ⌝ }
+/// Whether a term of the block `block`, if a turn, reads an earlier one.
+fn turns_before(term: Term, assigned: &[usize], block: usize) -> bool
+    requires { ⌜ ((j : ℕ) → Reads term j → j < length (now assigned)) ⌝ }
+    ensures { λ r. ⌜ Decides r (Turns-before (now (assigned .entry)) block term) ⌝ }
 {
     match term {
-        Term::Turn(a) => homes[a] < home,
+        Term::Turn(a) => assigned[a] < block,
         _ => true,
     }
 }
 
 /// Whether term `i` keeps every rule, and the first that it breaks.
-fn check_term(tags: u32, terms: &[TermRow], homes: &[usize], i: usize) -> Result<(), QueryRefusal>
+fn check_term(
+    tags: u32,
+    terms: &[TermRow],
+    assigned: &[usize],
+    i: usize,
+) -> Result<(), QueryRefusal>
     requires term { ⌜ i < length (now terms) ⌝ }
-    requires dealt { ⌜ length (now terms) ≤ length (now homes) ⌝ }
-    ensures { λ r. ⌜ ((bs : List BlockRow) → Homes (rows tags bs (now (terms .entry))) (now (homes .entry)) → Cases r (λ _. Fits (rows tags bs (now (terms .entry))) i) (λ e. Faulty (rows tags bs (now (terms .entry))) i e)) ⌝ }
+    requires dealt { ⌜ length (now terms) ≤ length (now assigned) ⌝ }
+    ensures { λ r. ⌜ ((bs : List BlockRow) → Assigned (rows tags bs (now (terms .entry))) (now (assigned .entry)) → Cases r (λ _. Fits (rows tags bs (now (terms .entry))) i) (λ e. Faulty (rows tags bs (now (terms .entry))) i e)) ⌝ }
 {
     let Some(term) = terms[i].term() else {
         return Err(QueryRefusal::BadTerm { term: i });
@@ -113,22 +118,22 @@ fn check_term(tags: u32, terms: &[TermRow], homes: &[usize], i: usize) -> Result
     if !stands(term, tags as usize, terms.len()) {
         return Err(QueryRefusal::BadTerm { term: i });
     }
-    if !reads_up_to(term, homes, homes[i]) {
+    if !reads_up_to(term, assigned, assigned[i]) {
         return Err(QueryRefusal::LaterBlock { term: i });
     }
-    if !turns_before(term, homes, homes[i]) {
+    if !turns_before(term, assigned, assigned[i]) {
         return Err(QueryRefusal::OwnTurn { term: i });
     }
     Ok(())
 }
 
 /// Whether every term keeps every rule, and the first that the first faulty one breaks.
-fn check_terms(tags: u32, terms: &[TermRow], homes: &[usize]) -> Result<(), QueryRefusal>
-    requires { ⌜ length (now terms) ≤ length (now homes) ⌝ }
-    ensures { λ r. ⌜ ((bs : List BlockRow) → Homes (rows tags bs (now (terms .entry))) (now (homes .entry)) → Cases r (λ _. (i : ℕ) → i < length (now (terms .entry)) → Fits (rows tags bs (now (terms .entry))) i) (λ e. First-faulty (rows tags bs (now (terms .entry))) e)) ⌝ }
+fn check_terms(tags: u32, terms: &[TermRow], assigned: &[usize]) -> Result<(), QueryRefusal>
+    requires { ⌜ length (now terms) ≤ length (now assigned) ⌝ }
+    ensures { λ r. ⌜ ((bs : List BlockRow) → Assigned (rows tags bs (now (terms .entry))) (now (assigned .entry)) → Cases r (λ _. (i : ℕ) → i < length (now (terms .entry)) → Fits (rows tags bs (now (terms .entry))) i) (λ e. First-faulty (rows tags bs (now (terms .entry))) e)) ⌝ }
 {
     for i in 0..terms.len() {
-        check_term(tags, terms, homes, i)?;
+        check_term(tags, terms, assigned, i)?;
     }
     Ok(())
 }
@@ -150,16 +155,16 @@ fn check_frame(tags: u32, blocks: &[BlockRow], terms: &[TermRow]) -> Result<(), 
 }
 
 /// The block of each term of a table that keeps every rule, or the first cause to refuse it.
-pub fn check(
+pub(crate) fn check(
     tags: u32,
     blocks: &[BlockRow],
     terms: &[TermRow],
 ) -> Result<[usize; MOST_TERMS], QueryRefusal>
-    ensures { λ r. ⌜ Cases r (λ homes. Admissible (rows tags (now (blocks .entry)) (now (terms .entry))) × Homes (rows tags (now (blocks .entry)) (now (terms .entry))) homes) (λ e. Refused-for (rows tags (now (blocks .entry)) (now (terms .entry))) e) ⌝ }
+    ensures { λ r. ⌜ Cases r (λ assigned. Admissible (rows tags (now (blocks .entry)) (now (terms .entry))) × Assigned (rows tags (now (blocks .entry)) (now (terms .entry))) assigned) (λ e. Refused-for (rows tags (now (blocks .entry)) (now (terms .entry))) e) ⌝ }
 {
     check_frame(tags, blocks, terms)?;
-    let mut homes = [0; MOST_TERMS];
-    deal(blocks, &mut homes);
-    check_terms(tags, terms, &homes)?;
-    Ok(homes)
+    let mut assigned = [0; MOST_TERMS];
+    deal(blocks, &mut assigned);
+    check_terms(tags, terms, &assigned)?;
+    Ok(assigned)
 }

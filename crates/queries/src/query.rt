@@ -21,7 +21,7 @@ pub struct Query {
     blocks: Vec<Block>,
     terms: Vec<Term>,
     /// The block of each term.
-    homes: Vec<usize>,
+    assigned: Vec<usize>,
     spans: Vec<Span>,
     /// For each term, the terms of its block that read it.
     readers: Vec<Vec<usize>>,
@@ -36,8 +36,8 @@ pub struct Query {
     ghost operands_stand: { (i : ℕ) → i < length (vec-items terms) → Operands-stand (table tags (vec-items blocks) (vec-items terms)) i },
     ghost no_later_block: { (i : ℕ) → i < length (vec-items terms) → No-later-block (table tags (vec-items blocks) (vec-items terms)) i },
     ghost turn_earlier: { (i : ℕ) → i < length (vec-items terms) → Turn-earlier (table tags (vec-items blocks) (vec-items terms)) i },
-    ghost homes_stand: { vec-items homes ≡ listed (block-of (table tags (vec-items blocks) (vec-items terms))) (length (vec-items terms)) },
+    ghost assigned_stand: { vec-items assigned ≡ listed (block-of (table tags (vec-items blocks) (vec-items terms))) (length (vec-items terms)) },
     ghost spans_stand: { vec-items spans ≡ listed (span-of (table tags (vec-items blocks) (vec-items terms))) (length (vec-items blocks)) },
-    ghost readers_stand: { map vec-items (vec-items readers) ≡ listed (readers-before (vec-items homes) (vec-items terms) (length (vec-items terms))) (length (vec-items terms)) },
-    ghost reached_stand: { map vec-items (vec-items reached) ≡ listed (λ tag. listed (reached-before (vec-items homes) (vec-items terms) tag (length (vec-items terms))) (length (vec-items blocks))) tags },
+    ghost readers_stand: { map vec-items (vec-items readers) ≡ listed (readers-before (vec-items assigned) (vec-items terms) (length (vec-items terms))) (length (vec-items terms)) },
+    ghost reached_stand: { map vec-items (vec-items reached) ≡ listed (λ tag. listed (reached-before (vec-items assigned) (vec-items terms) tag (length (vec-items terms))) (length (vec-items blocks))) tags },
 }

@@ -24,7 +24,7 @@ pub enum Term {
 }
 
 /// The terms that a term reads; a single one stands on both sides.
-#[derive(Clone, Copy, PartialEq, Eq, Debug)]
+#[derive(Clone, Copy)]
 pub struct Operands {
     pub left: usize,
     pub right: usize,

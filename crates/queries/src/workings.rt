@@ -22,7 +22,7 @@ use std::alloc::AllocError;
 use std::alloc::Global;
 
 /// The blocks that rows tell.
-pub fn blocks_told(heap: Global, rows: &[BlockRow]) -> Result<Vec<Block>, AllocError>
+pub(crate) fn blocks_told(heap: Global, rows: &[BlockRow]) -> Result<Vec<Block>, AllocError>
     ensures { λ r. ⌜ made r (λ v. vec-items v ≡ map block-in (now (rows .entry))) ⌝ }
 {
     let mut blocks = Vec::new(heap);
@@ -33,7 +33,7 @@ pub fn blocks_told(heap: Global, rows: &[BlockRow]) -> Result<Vec<Block>, AllocE
 }
 
 /// The terms that rows tell.
-pub fn terms_told(heap: Global, rows: &[TermRow]) -> Result<Vec<Term>, AllocError>
+pub(crate) fn terms_told(heap: Global, rows: &[TermRow]) -> Result<Vec<Term>, AllocError>
     ensures { λ r. ⌜ made r (λ v. vec-items v ≡ map (λ row. valueOr (term-in row) Lowest) (now (rows .entry))) ⌝ }
 {
     let mut terms = Vec::new(heap);
@@ -44,7 +44,7 @@ pub fn terms_told(heap: Global, rows: &[TermRow]) -> Result<Vec<Term>, AllocErro
 }
 
 /// The terms of each block.
-pub fn spans_of(heap: Global, blocks: &[Block]) -> Result<Vec<Span>, AllocError>
+pub(crate) fn spans_of(heap: Global, blocks: &[Block]) -> Result<Vec<Span>, AllocError>
     requires { ⌜ total (now blocks) ≤ 64 ⌝ }
     ensures { λ r. ⌜ made r (λ v. vec-items v ≡ listed (span-of (table 0 (now (blocks .entry)) [])) (length (now (blocks .entry)))) ⌝ }
 {
@@ -81,17 +81,17 @@ fn note(readers: &mut Vec<Vec<usize>>, read: usize, reader: usize) -> Result<(),
 /// Notes the same if both terms are of one block.
 fn note_within(
     readers: &mut Vec<Vec<usize>>,
-    homes: &[usize],
+    assigned: &[usize],
     read: usize,
     reader: usize,
 ) -> Result<(), AllocError>
-    requires lists { ⌜ length (vec-items (now readers)) ≡ length (now homes) ⌝ }
-    requires read { ⌜ read < length (now homes) ⌝ }
-    requires reader { ⌜ reader < length (now homes) ⌝ }
-    ensures len { λ r. ⌜ made r (λ _. length (vec-items (now (readers .exit))) ≡ length (now (homes .entry))) ⌝ }
-    ensures lists { λ r. ⌜ made r (λ _. (t : ℕ) → getD (map vec-items (vec-items (now (readers .exit)))) t [] ≡ noted (eqb (getD (now (homes .entry)) reader 0) (getD (now (homes .entry)) t 0) && eqb read t) (getD (map vec-items (vec-items (now (readers .entry)))) t []) reader) ⌝ }
+    requires lists { ⌜ length (vec-items (now readers)) ≡ length (now assigned) ⌝ }
+    requires read { ⌜ read < length (now assigned) ⌝ }
+    requires reader { ⌜ reader < length (now assigned) ⌝ }
+    ensures len { λ r. ⌜ made r (λ _. length (vec-items (now (readers .exit))) ≡ length (now (assigned .entry))) ⌝ }
+    ensures lists { λ r. ⌜ made r (λ _. (t : ℕ) → getD (map vec-items (vec-items (now (readers .exit)))) t [] ≡ noted (eqb (getD (now (assigned .entry)) reader 0) (getD (now (assigned .entry)) t 0) && eqb read t) (getD (map vec-items (vec-items (now (readers .entry)))) t []) reader) ⌝ }
 {
-    if homes[reader] == homes[read] {
+    if assigned[reader] == assigned[read] {
         note(readers, read, reader)?;
     }
     Ok(())
@@ -100,60 +100,60 @@ fn note_within(
 /// Notes a term at each term of its block that it reads.
 fn note_operands(
     readers: &mut Vec<Vec<usize>>,
-    homes: &[usize],
+    assigned: &[usize],
     term: Term,
     reader: usize,
 ) -> Result<(), AllocError>
-    requires lists { ⌜ length (vec-items (now readers)) ≡ length (now homes) ⌝ }
-    requires operands { ⌜ ((j : ℕ) → Reads term j → j < length (now homes)) ⌝ }
-    requires reader { ⌜ reader < length (now homes) ⌝ }
-    ensures len { λ r. ⌜ made r (λ _. length (vec-items (now (readers .exit))) ≡ length (now (homes .entry))) ⌝ }
-    ensures lists { λ r. ⌜ made r (λ _. (t : ℕ) → getD (map vec-items (vec-items (now (readers .exit)))) t [] ≡ noted (eqb (getD (now (homes .entry)) reader 0) (getD (now (homes .entry)) t 0) && either-is (operands-of term) t) (getD (map vec-items (vec-items (now (readers .entry)))) t []) reader) ⌝ }
+    requires lists { ⌜ length (vec-items (now readers)) ≡ length (now assigned) ⌝ }
+    requires operands { ⌜ ((j : ℕ) → Reads term j → j < length (now assigned)) ⌝ }
+    requires reader { ⌜ reader < length (now assigned) ⌝ }
+    ensures len { λ r. ⌜ made r (λ _. length (vec-items (now (readers .exit))) ≡ length (now (assigned .entry))) ⌝ }
+    ensures lists { λ r. ⌜ made r (λ _. (t : ℕ) → getD (map vec-items (vec-items (now (readers .exit)))) t [] ≡ noted (eqb (getD (now (assigned .entry)) reader 0) (getD (now (assigned .entry)) t 0) && either-is (operands-of term) t) (getD (map vec-items (vec-items (now (readers .entry)))) t []) reader) ⌝ }
 {
     let Some(operands) = term.operands() else {
         return Ok(());
     };
-    note_within(readers, homes, operands.left, reader)?;
+    note_within(readers, assigned, operands.left, reader)?;
     if operands.right != operands.left {
-        note_within(readers, homes, operands.right, reader)?;
+        note_within(readers, assigned, operands.right, reader)?;
     }
     Ok(())
 }
 
 /// For each term the terms of its block that read it, in rising order.
-pub fn readers_of(
+pub(crate) fn readers_of(
     heap: Global,
     terms: &[Term],
-    homes: &[usize],
+    assigned: &[usize],
 ) -> Result<Vec<Vec<usize>>, AllocError>
-    requires homes { ⌜ length (now homes) ≡ length (now terms) ⌝ }
+    requires assigned { ⌜ length (now assigned) ≡ length (now terms) ⌝ }
     requires operands { ⌜ ((i j : ℕ) → i < length (now terms) → Reads (getD (now terms) i Lowest) j → j < length (now terms)) ⌝ }
-    ensures { λ r. ⌜ made r (λ v. map vec-items (vec-items v) ≡ listed (readers-before (now (homes .entry)) (now (terms .entry)) (length (now (terms .entry)))) (length (now (terms .entry)))) ⌝ }
+    ensures { λ r. ⌜ made r (λ v. map vec-items (vec-items v) ≡ listed (readers-before (now (assigned .entry)) (now (terms .entry)) (length (now (terms .entry)))) (length (now (terms .entry)))) ⌝ }
 {
     let mut readers = no_readers(heap, terms.len())?;
     for i in 0..terms.len() {
-        note_operands(&mut readers, homes, terms[i], i)?;
+        note_operands(&mut readers, assigned, terms[i], i)?;
     }
     Ok(readers)
 }
 
 /// Whether the block of a term is reached.
-fn is_reached(reached: &[bool], homes: &[usize], term: usize) -> bool
-    requires term { ⌜ term < length (now homes) ⌝ }
-    requires home { ⌜ getD (now homes) term 0 < length (now reached) ⌝ }
-    ensures { λ r. ⌜ r ≡ getD (now (reached .entry)) (getD (now (homes .entry)) term 0) false ⌝ }
+fn is_reached(reached: &[bool], assigned: &[usize], term: usize) -> bool
+    requires term { ⌜ term < length (now assigned) ⌝ }
+    requires block { ⌜ getD (now assigned) term 0 < length (now reached) ⌝ }
+    ensures { λ r. ⌜ r ≡ getD (now (reached .entry)) (getD (now (assigned .entry)) term 0) false ⌝ }
 {
-    reached[homes[term]]
+    reached[assigned[term]]
 }
 
 /// Whether a term reads the tag or a block that is reached.
-fn touches(term: Term, homes: &[usize], reached: &[bool], tag: usize) -> bool
-    requires { ⌜ ((j : ℕ) → Reads term j → (j < length (now homes)) × (getD (now homes) j 0 < length (now reached))) ⌝ }
-    ensures { λ r. ⌜ r ≡ touched (now (homes .entry)) tag (λ b. getD (now (reached .entry)) b false) term ⌝ }
+fn touches(term: Term, assigned: &[usize], reached: &[bool], tag: usize) -> bool
+    requires { ⌜ ((j : ℕ) → Reads term j → (j < length (now assigned)) × (getD (now assigned) j 0 < length (now reached))) ⌝ }
+    ensures { λ r. ⌜ r ≡ touched (now (assigned .entry)) tag (λ b. getD (now (reached .entry)) b false) term ⌝ }
 {
     match term.operands() {
-        Some(operands) => is_reached(reached, homes, operands.left)
-            || is_reached(reached, homes, operands.right),
+        Some(operands) => is_reached(reached, assigned, operands.left)
+            || is_reached(reached, assigned, operands.right),
         None => match term {
             Term::Mark(a) => a == tag,
             _ => false,
@@ -165,40 +165,40 @@ fn touches(term: Term, homes: &[usize], reached: &[bool], tag: usize) -> bool
 fn reached_by(
     heap: Global,
     terms: &[Term],
-    homes: &[usize],
+    assigned: &[usize],
     blocks: usize,
     tag: usize,
 ) -> Result<Vec<bool>, AllocError>
-    requires homes { ⌜ length (now homes) ≡ length (now terms) ⌝ }
-    requires blocks { ⌜ ((i : ℕ) → i < length (now terms) → getD (now homes) i 0 < blocks) ⌝ }
+    requires assigned { ⌜ length (now assigned) ≡ length (now terms) ⌝ }
+    requires blocks { ⌜ ((i : ℕ) → i < length (now terms) → getD (now assigned) i 0 < blocks) ⌝ }
     requires operands { ⌜ ((i j : ℕ) → i < length (now terms) → Reads (getD (now terms) i Lowest) j → j < length (now terms)) ⌝ }
-    ensures { λ r. ⌜ made r (λ v. vec-items v ≡ listed (reached-before (now (homes .entry)) (now (terms .entry)) tag (length (now (terms .entry)))) blocks) ⌝ }
+    ensures { λ r. ⌜ made r (λ v. vec-items v ≡ listed (reached-before (now (assigned .entry)) (now (terms .entry)) tag (length (now (terms .entry)))) blocks) ⌝ }
 {
     let mut reached = vec![in heap; false; blocks]?;
     for i in 0..terms.len() {
-        if touches(terms[i], homes, &reached, tag) {
-            reached[homes[i]] = true;
+        if touches(terms[i], assigned, &reached, tag) {
+            reached[assigned[i]] = true;
         }
     }
     Ok(reached)
 }
 
 /// For each tag, whether it reaches each block.
-pub fn reached_of(
+pub(crate) fn reached_of(
     heap: Global,
     terms: &[Term],
-    homes: &[usize],
+    assigned: &[usize],
     blocks: usize,
     tags: usize,
 ) -> Result<Vec<Vec<bool>>, AllocError>
-    requires homes { ⌜ length (now homes) ≡ length (now terms) ⌝ }
-    requires blocks { ⌜ ((i : ℕ) → i < length (now terms) → getD (now homes) i 0 < blocks) ⌝ }
+    requires assigned { ⌜ length (now assigned) ≡ length (now terms) ⌝ }
+    requires blocks { ⌜ ((i : ℕ) → i < length (now terms) → getD (now assigned) i 0 < blocks) ⌝ }
     requires operands { ⌜ ((i j : ℕ) → i < length (now terms) → Reads (getD (now terms) i Lowest) j → j < length (now terms)) ⌝ }
-    ensures { λ r. ⌜ made r (λ v. map vec-items (vec-items v) ≡ listed (λ tag. listed (reached-before (now (homes .entry)) (now (terms .entry)) tag (length (now (terms .entry)))) blocks) tags) ⌝ }
+    ensures { λ r. ⌜ made r (λ v. map vec-items (vec-items v) ≡ listed (λ tag. listed (reached-before (now (assigned .entry)) (now (terms .entry)) tag (length (now (terms .entry)))) blocks) tags) ⌝ }
 {
     let mut reached = Vec::new(heap);
     for tag in 0..tags {
-        reached.push(reached_by(heap, terms, homes, blocks, tag)?)?;
+        reached.push(reached_by(heap, terms, assigned, blocks, tag)?)?;
     }
     Ok(reached)
 }

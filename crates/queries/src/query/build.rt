@@ -32,21 +32,21 @@ fn build(
     tags: usize,
     blocks: Vec<Block>,
     terms: Vec<Term>,
-    homes: &[usize],
+    assigned: &[usize],
 ) -> Result<Query, AllocError>
     requires rules { ⌜ Admitted (table tags (vec-items blocks) (vec-items terms)) ⌝ }
-    requires homes { ⌜ now homes ≡ listed (block-of (table tags (vec-items blocks) (vec-items terms))) (length (vec-items terms)) ⌝ }
+    requires assigned { ⌜ now assigned ≡ listed (block-of (table tags (vec-items blocks) (vec-items terms))) (length (vec-items terms)) ⌝ }
     ensures { λ r. ⌜ made r (λ q. table-of q ≡ table tags (vec-items blocks) (vec-items terms)) ⌝ }
 {
     let spans = spans_of(heap, &blocks)?;
-    let readers = readers_of(heap, &terms, homes)?;
-    let reached = reached_of(heap, &terms, homes, blocks.len(), tags)?;
-    let homes = Vec::from_slice(heap, homes)?;
+    let readers = readers_of(heap, &terms, assigned)?;
+    let reached = reached_of(heap, &terms, assigned, blocks.len(), tags)?;
+    let assigned = Vec::from_slice(heap, assigned)?;
     Ok(Query {
         tags,
         blocks,
         terms,
-        homes,
+        assigned,
         spans,
         readers,
         reached,
@@ -59,18 +59,18 @@ fn told(
     tags: u32,
     blocks: &[BlockRow],
     terms: &[TermRow],
-    homes: &[usize],
+    assigned: &[usize],
 ) -> Result<Query, AllocError>
     requires rules { ⌜ Admissible (rows tags (now blocks) (now terms)) ⌝ }
-    requires homes { ⌜ now homes ≡ listed (block-of (told-by (rows tags (now blocks) (now terms)))) (length (now terms)) ⌝ }
+    requires assigned { ⌜ now assigned ≡ listed (block-of (told-by (rows tags (now blocks) (now terms)))) (length (now terms)) ⌝ }
     ensures { λ r. ⌜ made r (λ q. table-of q ≡ told-by (rows tags (now (blocks .entry)) (now (terms .entry)))) ⌝ }
 {
     let blocks = blocks_told(heap, blocks)?;
     let terms = terms_told(heap, terms)?;
-    build(heap, tags as usize, blocks, terms, homes)
+    build(heap, tags as usize, blocks, terms, assigned)
 }
 
-/// The least query there is.
+/// The query of the lowest term alone.
 fn lowest(heap: Global) -> Result<Query, AllocError>
     ensures { λ r. ⌜ made r (λ q. table-of q ≡ lowest-alone) ⌝ }
 {
@@ -94,7 +94,7 @@ impl Query {
         }
     }
 
-    /// Takes the place of this query by what a table tells, or refuses the table and leaves the query as it was.
+    /// Puts what a table tells in the place of this query, or refuses the table and leaves the query as it was.
     pub fn admit(
         &mut self,
         heap: Global,
@@ -104,8 +104,8 @@ impl Query {
     ) -> Result<(), QueryRefusal>
         ensures { λ r. ⌜ Cases r (λ _. Admissible (rows tags (now (blocks .entry)) (now (terms .entry))) × (table-of (now (self .exit)) ≡ told-by (rows tags (now (blocks .entry)) (now (terms .entry))))) (λ e. (now (self .exit) ≡ now (self .entry)) × Refused-for (rows tags (now (blocks .entry)) (now (terms .entry))) e) ⌝ }
     {
-        let homes = check(tags, blocks, terms)?;
-        let Ok(query) = told(heap, tags, blocks, terms, &homes[0..terms.len()]) else {
+        let assigned = check(tags, blocks, terms)?;
+        let Ok(query) = told(heap, tags, blocks, terms, &assigned[0..terms.len()]) else {
             return Err(QueryRefusal::NoMemory);
         };
         *self = query;

@@ -44,7 +44,7 @@ impl Query {
     pub fn block_of(&self, term: usize) -> Option<usize>
         ensures { λ r. ⌜ r ≡ cond (ltb term (length (table-of (now (self .entry)) .terms))) (Some (block-of (table-of (now (self .entry))) term)) None ⌝ }
     {
-        self.homes.get(term).copied()
+        self.assigned.get(term).copied()
     }
 
     /// Which solution a block is read as; none past the blocks.

@@ -10,4 +10,4 @@ use Rattle.queries.proofs.admission.deal.Given as given
 abbrev pub Inv-loop-i : given.InvT-loop-i
 Inv-loop-i l =
     (l .first ≡ before (map block-in (l .blocks)) (l .i))
-    × ((k : ℕ) → k < l .first → getD (l .homes) k 0 ≡ dealt (map block-in (l .blocks)) k)
+    × ((k : ℕ) → k < l .first → getD (l .assigned) k 0 ≡ dealt (map block-in (l .blocks)) k)

@@ -9,13 +9,13 @@ use Rattle.queries.proofs.admission.fill.Needs as need
 
 pub loop-k-again : need.loop-k-again
 loop-k-again c =
-    let homes = c .loop-k .homes in
+    let assigned = c .loop-k .assigned in
     let i = c .loop-k .k in
-    let home = c .args .home in
-    let in′ : i < length homes = omega arith in (
+    let block = c .args .block in
+    let in′ : i < length assigned = omega arith in (
       λ k low high. elim (cases-eq k i) [
-        | inl e ↦ ap (λ n. getD (set homes i home) n 0) e ∙ getD-set-same homes i home 0 in′
-        | inr e ↦ getD-set-other homes i k home 0 e ∙ c .loop-k .inv .0 k low (omega arith)
+        | inl e ↦ ap (λ n. getD (set assigned i block) n 0) e ∙ getD-set-same assigned i block 0 in′
+        | inr e ↦ getD-set-other assigned i k block 0 e ∙ c .loop-k .inv .0 k low (omega arith)
       ],
-      λ k h. getD-set-other homes i k home 0 (omega arith) ∙ c .loop-k .inv .1 k h,
+      λ k h. getD-set-other assigned i k block 0 (omega arith) ∙ c .loop-k .inv .1 k h,
     )

@@ -5,5 +5,5 @@ use Rattle.queries.proofs.admission.fill.Given as given
 
 abbrev pub Inv-loop-k : given.InvT-loop-k
 Inv-loop-k l =
-    ((k : ℕ) → l .first ≤ k → k < l .k → getD (l .homes) k 0 ≡ l .home)
-    × ((k : ℕ) → k < l .first → getD (l .homes) k 0 ≡ getD (l .entry .homes) k 0)
+    ((k : ℕ) → l .first ≤ k → k < l .k → getD (l .assigned) k 0 ≡ l .block)
+    × ((k : ℕ) → k < l .first → getD (l .assigned) k 0 ≡ getD (l .entry .assigned) k 0)

@@ -9,4 +9,4 @@ use Rattle.queries.proofs.workings.reached_by.Given as given
 abbrev pub Inv-loop-i : given.InvT-loop-i
 Inv-loop-i l =
     (length (vec-items (l .reached)) ≡ l .blocks)
-    × ((b : ℕ) → b < l .blocks → getD (vec-items (l .reached)) b false ≡ reached-before (l .homes) (l .terms) (l .tag) (l .i) b)
+    × ((b : ℕ) → b < l .blocks → getD (vec-items (l .reached)) b false ≡ reached-before (l .assigned) (l .terms) (l .tag) (l .i) b)

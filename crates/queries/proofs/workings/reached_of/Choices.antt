@@ -6,4 +6,4 @@ use Rattle.queries.specs.Workings.{listed, reached-before}
 use Rattle.queries.proofs.workings.reached_of.Given as given
 
 abbrev pub Inv-loop-tag : given.InvT-loop-tag
-Inv-loop-tag l = map vec-items (vec-items (l .reached)) ≡ listed (λ tag. listed (reached-before (l .homes) (l .terms) tag (length (l .terms))) (l .blocks)) (l .tag)
+Inv-loop-tag l = map vec-items (vec-items (l .reached)) ≡ listed (λ tag. listed (reached-before (l .assigned) (l .terms) tag (length (l .terms))) (l .blocks)) (l .tag)

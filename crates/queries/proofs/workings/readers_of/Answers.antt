@@ -1,17 +1,14 @@
 use mathlib.Core.Path.{_≡_, sym, ap, subst, _∙_}
-use mathlib.Core.Bool.{_&&_}
 use mathlib.Core.List.{[], map}
 use native.Mathlib.Omega.{arith}
-use lib.Dec.{eqb}
 use lib.ListN.{length, getD}
 use Rattle.std.specs.Of.Vec.{vec-items}
 use Rattle.std.proofs.shelf.Lists.{getD-default, length-map}
 use Rattle.queries.specs.declared.term.Term.the-variants.{Mark, Lowest}
-use Rattle.queries.specs.Operands.{operands-of, either-is}
 use Rattle.queries.specs.Table.{Reads}
-use Rattle.queries.specs.Workings.{noted, readers-before, reads-within}
+use Rattle.queries.specs.Workings.{readers-before}
 use Rattle.queries.proofs.Listed.{length-listed, getD-listed, listed-all}
-use Rattle.queries.proofs.Readers.{readers-more}
+use Rattle.queries.proofs.Readers.{readers-step}
 use Rattle.queries.proofs.workings.readers_of.Needs as need
 
 pub loop-i-holds : need.loop-i-holds
@@ -31,20 +28,16 @@ note-operands-requires c κs = record {
 
 pub loop-i-again : need.loop-i-again
 loop-i-again c =
-    let homes = c .args .homes .now in
     let terms = c .args .terms .now in
     let i = c .loop-i .i in
     let done = c .in-Continue-note-operands .ensures tt in (
       omega (arith, done .len),
-      λ t h. done .lists t
-          ∙ ap (λ m. noted (eqb (getD homes i 0) (getD homes t 0) && either-is (operands-of m) t) (getD (map vec-items (vec-items (c .loop-i .readers))) t []) i) (getD-default terms i (Mark 0) Lowest (c .loop-i-test .taken))
-          ∙ ap (λ l. noted (reads-within homes terms t i) l i) (c .loop-i .inv .1 t h)
-          ∙ readers-more homes terms i t,
+      λ t h. readers-step (c .args .assigned .now) terms i t (getD terms i (Mark 0)) (getD (map vec-items (vec-items (c .loop-i .readers))) t []) (getD (map vec-items (vec-items (c .note-operands .last .readers))) t []) (done .lists t) (getD-default terms i (Mark 0) Lowest (c .loop-i-test .taken)) (c .loop-i .inv .1 t h),
     )
 
 pub returns : need.returns
 returns c =
     let n = length (c .args .terms .now) in
     let all : c .loop-i .i ≡ n = omega arith in
-    listed-all (readers-before (c .args .homes .now) (c .args .terms .now) n) (map vec-items (vec-items (c .loop-i .readers))) n [] (length-map (vec-items (c .loop-i .readers)) vec-items ∙ c .loop-i .inv .0)
-    (λ t h. c .loop-i .inv .1 t h ∙ ap (λ k. readers-before (c .args .homes .now) (c .args .terms .now) k t) all)
+    listed-all (readers-before (c .args .assigned .now) (c .args .terms .now) n) (map vec-items (vec-items (c .loop-i .readers))) n [] (length-map (vec-items (c .loop-i .readers)) vec-items ∙ c .loop-i .inv .0)
+    (λ t h. c .loop-i .inv .1 t h ∙ ap (λ k. readers-before (c .args .assigned .now) (c .args .terms .now) k t) all)

@@ -9,4 +9,4 @@ use Rattle.queries.proofs.workings.readers_of.Given as given
 abbrev pub Inv-loop-i : given.InvT-loop-i
 Inv-loop-i l =
     (length (vec-items (l .readers)) ≡ length (l .terms))
-    × ((t : ℕ) → t < length (l .terms) → getD (map vec-items (vec-items (l .readers))) t [] ≡ readers-before (l .homes) (l .terms) (l .i) t)
+    × ((t : ℕ) → t < length (l .terms) → getD (map vec-items (vec-items (l .readers))) t [] ≡ readers-before (l .assigned) (l .terms) (l .i) t)

@@ -3,6 +3,7 @@ use mathlib.Core.List.{[]}
 use Prim.Native.Nat.{ℕ, _+_}
 use native.Mathlib.Omega.{arith}
 use lib.ListN.{length, getD}
+use Rattle.std.specs.Of.Vec.{vec-items}
 use Rattle.queries.specs.declared.block.Span.{Span}
 use Rattle.queries.specs.Table.{table, no-block}
 use Rattle.queries.specs.Workings.{span-of}
@@ -24,7 +25,7 @@ loop-block-again c =
     let i = c .loop-block .block-index in
     let new : ℕ → Span = λ first. record { first = first; end = first + getD blocks i no-block .terms } in (
       omega (arith, before-more blocks i (c .loop-block-test .taken), c .loop-block .inv .0),
-      listed-push (span-of (table 0 blocks [])) i _ _ (new (c .loop-block .first)) (c .loop-block .inv .1) (ap new (c .loop-block .inv .0)) (c .in-Continue-push .ensures tt .items),
+      listed-push (span-of (table 0 blocks [])) i (vec-items (c .loop-block .spans)) (vec-items (c .push .last .self)) (new (c .loop-block .first)) (c .loop-block .inv .1) (ap new (c .loop-block .inv .0)) (c .in-Continue-push .ensures tt .items),
     )
 
 pub returns : need.returns

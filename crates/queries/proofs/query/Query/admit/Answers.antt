@@ -8,8 +8,8 @@ use Rattle.queries.proofs.query.Query.admit.Needs as need
 pub told-requires : need.told-requires
 told-requires c κs =
     let r = rows (c .args .tags) (c .args .blocks .now) (c .args .terms .now) in
-    let ok = c .in-Continue-homes .ensures tt in
+    let ok = c .in-Continue-assigned .ensures tt in
     record {
       rules = ok .0;
-      homes = listed-front (block-of (told r)) (c .in-Continue-homes .homes) (length (c .args .terms .now)) _ 0 (omega arith) (omega (arith, ok .0 .framed .sizes .few-terms)) (ok .1);
+      assigned = listed-front (block-of (told r)) (c .in-Continue-assigned .assigned) (length (c .args .terms .now)) _ 0 (omega arith) (omega (arith, ok .0 .framed .sizes .few-terms)) (ok .1);
     }

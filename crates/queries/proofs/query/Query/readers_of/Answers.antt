@@ -12,11 +12,11 @@ pub returns-in-Some : need.returns-in-Some
 returns-in-Some c =
     let query = c .args .self .now in
     let q = table-of query in
-    let homes = vec-items (query .homes) in
+    let assigned = vec-items (query .assigned) in
     let n = length (q .terms) in
-    let row = row-found vec-items (vec-items (query .readers)) (c .deref .result .now) (readers-before homes (q .terms) n) n (c .args .term) (query .«readers_stand») (c .deref .ensures .value) (c .in-Some .readers) (c .in-Some .ensures tt .finds) in
+    let row = row-found vec-items (vec-items (query .readers)) (c .deref .result .now) (readers-before assigned (q .terms) n) n (c .args .term) (query .«readers_stand») (c .deref .ensures .value) (c .in-Some .readers) (c .in-Some .ensures tt .finds) in
     record {
-      lists = subst (Lists-readers q (c .args .term)) (sym (c .as-slice .ensures .value ∙ row .1)) (readers-right q homes (query .«homes_stand») (c .args .term) (row .0));
+      lists = subst (Lists-readers q (c .args .term)) (sym (c .as-slice .ensures .value ∙ row .1)) (readers-right q assigned (query .«assigned_stand») (c .args .term) (row .0));
       past = λ h. absurd (omega (arith, row .0));
     }
 
@@ -26,6 +26,6 @@ returns-in-None c =
     let q = table-of query in
     let n = length (q .terms) in
     record {
-      lists = none-past q (query .«all_dealt») (c .args .term) (row-missing vec-items (vec-items (query .readers)) (c .deref .result .now) (readers-before (vec-items (query .homes)) (q .terms) n) n (c .args .term) (query .«readers_stand») (c .deref .ensures .value) (c .in-None .ensures tt .finds));
+      lists = none-past q (query .«all_dealt») (c .args .term) (row-missing vec-items (vec-items (query .readers)) (c .deref .result .now) (readers-before (vec-items (query .assigned)) (q .terms) n) n (c .args .term) (query .«readers_stand») (c .deref .ensures .value) (c .in-None .ensures tt .finds));
       past = λ h. refl;
     }

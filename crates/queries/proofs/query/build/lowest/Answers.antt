@@ -18,5 +18,5 @@ build-requires c κs =
     let terms = sym (c .in-Continue-terms .ensures tt .made .0) in
     record {
       rules = subst₂ (λ bs ts. Admitted (table 0 bs ts)) blocks terms lowest-admitted;
-      homes = subst₂ (λ bs ts. one ≡ listed (dealt bs) (length ts)) blocks terms refl;
+      assigned = subst₂ (λ bs ts. one ≡ listed (dealt bs) (length ts)) blocks terms refl;
     }

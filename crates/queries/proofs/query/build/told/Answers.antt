@@ -16,5 +16,5 @@ build-requires c κs =
     let terms = sym (c .in-Continue-terms .ensures tt) in
     record {
       rules = subst₂ (λ bs ts. Admitted (table (c .args .tags) bs ts)) blocks terms (told-admitted r (c .pre .rules));
-      homes = c .pre .homes ∙ ap (listed (block-of (told-by r))) (sym (length-map (c .args .terms .now) (λ row. valueOr (term-in row) Lowest))) ∙ ap₂ (λ bs ts. listed (dealt bs) (length ts)) blocks terms;
+      assigned = c .pre .assigned ∙ ap (listed (block-of (told-by r))) (sym (length-map (c .args .terms .now) (λ row. valueOr (term-in row) Lowest))) ∙ ap₂ (λ bs ts. listed (dealt bs) (length ts)) blocks terms;
     }
