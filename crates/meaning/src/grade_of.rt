@@ -97,7 +97,7 @@ mod tests {
     use grades::yes_no::YesNo;
     use shapes::axis::Axis;
     use shapes::depth::DepthShape;
-    use shapes::depth::neighbours::DepthShapes;
+    use shapes::depth::DepthShapes;
     use shapes::refusal::ShapeRefusalDebug;
     use std::test::*;
 
