@@ -13,6 +13,6 @@ returns-then-line-ne78 c n h =
 
 pub returns : goal.returns
 returns c =
-    cases_weaker c.number-in.result c.number-in.ensures
+    cases_weaker c.number_in.result c.number_in.ensures
     (λ none n h. none n (line_shown c.args.line.now n h).3)
     (λ n h. line_shows c.args.line.now n c.if-line-ne-LINE.false c.if-line-ne78.false c.if-line-ne10.false h)

@@ -6,10 +6,10 @@ use Rattle.files.proofs.depths.read_depths.Goals as goal
 pub loop-i-init : goal.loop-i-init
 loop-i-init c = rw c.new-depths.ensures.items (read_none c.args.text.now)
 
-pub returns-in-default : goal.returns-in-default
-returns-in-default c =
+pub returns-in_default : goal.returns-in_default
+returns-in_default c =
     stops c.args.text.now (vec_items c.loop-i.depths) c.loop-i.i more c.loop-i.invariant
-    (rw c.min-end.ensures at c.in-default.ensures)
+    (rw c.min-end.ensures at c.in_default.ensures)
   where
     more : c.loop-i.i * 7 < length c.args.text.now
     more = omega arith

@@ -8,6 +8,6 @@ returns c =
     let field = c.args.field.now in
     let k = c.blanks.result in
     let e = c.blanks.ensures in
-    cases_weaker c.plain-number.result c.plain-number.ensures
+    cases_weaker c.plain_number.result c.plain_number.ensures
     (λ none n s. let h = shown field k n e.within e.before e.after s in none n h.0 (take_rest field k ∙ h.1))
     (λ n h. shows field k n c.if-field-gt-WIDEST.false e.within e.before (rw take_rest at h))

@@ -5,21 +5,21 @@ use Rattle.files.proofs.Blanks.{own, plain, no_zero_before, cases_weaker}
 use Rattle.files.proofs.field.plain_number.Goals as goal
 use Rattle.files.proofs.field.plain_number.Goals.{else-digits-gt1-via-then-digits-gt1+else-digits-eq48, else-digits-gt1-via-else-digits-gt1}
 
-pub returns-then-is-empty : goal.returns-then-is-empty
-returns-then-is-empty c n small e =
-    omega (arith, eqb-true (length c.args.digits.now) 0 (sym c.if-is-empty.ensures), ap length e, decimal_nonempty n small)
+pub returns-then-is_empty : goal.returns-then-is_empty
+returns-then-is_empty c n small e =
+    omega (arith, eqb-true (length c.args.digits.now) 0 (sym c.if-is_empty.ensures), ap length e, decimal_nonempty n small)
 
 pub returns-then-digits-eq48 : goal.returns-then-digits-eq48
 returns-then-digits-eq48 c n small e = no_zero_before c.args.digits.now n small c.if-digits-gt1.true c.if-digits-eq48.true e
 
 pub returns : goal.returns
 returns c =
-    cases_weaker c.number-of.result c.number-of.ensures
+    cases_weaker c.number_of.result c.number_of.ensures
     (λ other n small e. other (rw e (digits_decimal own n small)))
     (λ n h. rw h.1 (plain c.args.digits.now c.requires some lead h.0))
   where
     some : 0 < length c.args.digits.now
-    some = omega (arith, eqb-false (length c.args.digits.now) 0 (sym c.if-is-empty.ensures))
+    some = omega (arith, eqb-false (length c.args.digits.now) 0 (sym c.if-is_empty.ensures))
 
     lead : (1 < length c.args.digits.now) × (get_or c.args.digits.now 0 0 ≡ 48) → ⊥
     lead (many, zero-first) =

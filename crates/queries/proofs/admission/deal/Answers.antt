@@ -4,8 +4,8 @@ use Rattle.queries.specs.Rows.{block_in}
 use Rattle.queries.proofs.Deals.{before_le, told_more, told_all, told_in}
 use Rattle.queries.proofs.admission.deal.Goals as goal
 
-pub overflow-add-end : goal.overflow-add-end
-overflow-add-end c =
+pub overflow_add-end : goal.overflow_add-end
+overflow_add-end c =
     let rows = c.args.blocks.now in
     omega (arith, told_more rows c.loop-i.i c.loop-i-test.true, before_le (map block_in rows) (c.loop-i.i + 1), c.loop-i.invariant.0)
 

@@ -10,7 +10,7 @@ use Rattle.queries.proofs.workings.reached_by.Goals.{then-touches, else-touches}
 
 pub loop-i-init : goal.loop-i-init
 loop-i-init c =
-    let e = c.in-ok-reached.ensures.items_if_clones_equal (λ y h. h) in
+    let e = c.in_ok-reached.ensures.items_if_clones_equal (λ y h. h) in
     (ap length e ∙ length-replicate c.args.blocks false, λ b h. ap (λ l. get_or l b false) e ∙ get_or-replicate c.args.blocks b false false h)
 
 pub touches-requires : goal.touches-requires
@@ -21,8 +21,8 @@ touches-requires c j reads =
 pub bounds-assigned-i : goal.bounds-assigned-i
 bounds-assigned-i c = omega arith
 
-pub index-mut-requires : goal.index-mut-requires
-index-mut-requires c = omega (arith, c.requires.blocks c.loop-i.i c.loop-i-test.true, c.loop-i.invariant.0, c.loop-i.reached.ok.0)
+pub index_mut-requires : goal.index_mut-requires
+index_mut-requires c = omega (arith, c.requires.blocks c.loop-i.i c.loop-i-test.true, c.loop-i.invariant.0, c.loop-i.reached.ok.0)
 
 pub loop-i-preserved : goal.loop-i-preserved
 loop-i-preserved c =

@@ -9,34 +9,34 @@ use Rattle.shapes.proofs.address.address.Goals as goal
 pub loop-left-init : goal.loop-left-init
 loop-left-init g c = rw c.new-word.ensures.items (start _ (g.met.S.Shape.laws c.args.shape.now) c.args.node)
 
-pub overflow-add-position : goal.overflow-add-position
-overflow-add-position g c = omega (arith, fits _ _ _ _ _ _ c.loop-left.invariant _ (sym c.previous-of.ensures ∙ c.in-Some.is))
+pub overflow_add-position : goal.overflow_add-position
+overflow_add-position g c = omega (arith, fits _ _ _ _ _ _ c.loop-left.invariant _ (sym c.previous_of.ensures ∙ c.in-Some.is))
 
 pub loop-left-smaller-in-Some : goal.loop-left-smaller-in-Some
 unfolding to_go
-loop-left-smaller-in-Some g c = to_go_falls _ (g.met.S.Shape.laws c.args.shape.now) Previous _ _ (sym c.previous-of.ensures ∙ c.in-Some.is)
+loop-left-smaller-in-Some g c = to_go_falls _ (g.met.S.Shape.laws c.args.shape.now) Previous _ _ (sym c.previous_of.ensures ∙ c.in-Some.is)
 
 pub loop-left-preserved-in-Some : goal.loop-left-preserved-in-Some
-loop-left-preserved-in-Some g c = to_previous _ _ _ _ _ _ c.loop-left.invariant _ (sym c.previous-of.ensures ∙ c.in-Some.is)
+loop-left-preserved-in-Some g c = to_previous _ _ _ _ _ _ c.loop-left.invariant _ (sym c.previous_of.ensures ∙ c.in-Some.is)
 
 pub loop-left-smaller : goal.loop-left-smaller
 unfolding to_go
-loop-left-smaller g c = to_go_falls _ (g.met.S.Shape.laws c.args.shape.now) Owner _ _ (sym c.owner-of.ensures ∙ c.in-Some-owner-of.is)
+loop-left-smaller g c = to_go_falls _ (g.met.S.Shape.laws c.args.shape.now) Owner _ _ (sym c.owner_of.ensures ∙ c.in-Some-owner_of.is)
 
 pub loop-left-preserved : goal.loop-left-preserved
 loop-left-preserved g c =
-    rw c.in-ok-push.ensures.items (to_owner _ _ _ _ _ _ c.loop-left.invariant _ (sym c.owner-of.ensures ∙ c.in-Some-owner-of.is))
+    rw c.in_ok-push.ensures.items (to_owner _ _ _ _ _ _ c.loop-left.invariant _ (sym c.owner_of.ensures ∙ c.in-Some-owner_of.is))
 
-pub returns-in-err-push : goal.returns-in-err-push
-returns-in-err-push g c = record {
-  word = MatchResult-from_err _ _ _ c.from-residual.ensures.0 (λ _. not_empty _ _ _ _ _ _ c.loop-left.invariant _ (sym c.owner-of.ensures ∙ c.in-Some-owner-of.is));
+pub returns-in_err-push : goal.returns-in_err-push
+returns-in_err-push g c = record {
+  word = MatchResult-from_err _ _ _ c.from_residual.ensures.0 (λ _. not_empty _ _ _ _ _ _ c.loop-left.invariant _ (sym c.owner_of.ensures ∙ c.in-Some-owner_of.is));
   sibling_tree = sibling_tree _ (g.met.S.Shape.laws c.args.shape.now);
 }
 
-pub returns-in-default-owner-of : goal.returns-in-default-owner-of
-returns-in-default-owner-of g c = record {
+pub returns-in_default-owner_of : goal.returns-in_default-owner_of
+returns-in_default-owner_of g c = record {
   word =
       c.reverse.ensures.items
-      ∙ ap reverse (at_end _ _ _ _ _ _ c.loop-left.invariant (sym c.previous-of.ensures ∙ c.in-default.is) (sym c.owner-of.ensures ∙ c.in-default-owner-of.is));
+      ∙ ap reverse (at_end _ _ _ _ _ _ c.loop-left.invariant (sym c.previous_of.ensures ∙ c.in_default.is) (sym c.owner_of.ensures ∙ c.in_default-owner_of.is));
   sibling_tree = sibling_tree _ (g.met.S.Shape.laws c.args.shape.now);
 }

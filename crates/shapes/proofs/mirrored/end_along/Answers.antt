@@ -15,4 +15,4 @@ loop-further-preserved g c = leads_more _ _ _ _ c.loop-further.invariant (sym c.
 
 pub returns : goal.returns
 returns g c =
-    end_is _ (g.met.S.Shape.laws c.args.shape.now) c.args.axis _ _ c.loop-further.invariant (sym c.neighbour.ensures ∙ c.in-default.is)
+    end_is _ (g.met.S.Shape.laws c.args.shape.now) c.args.axis _ _ c.loop-further.invariant (sym c.neighbour.ensures ∙ c.in_default.is)

@@ -7,8 +7,8 @@ use Rattle.queries.proofs.query.Query.admit.Goals as goal
 pub told-requires : goal.told-requires
 told-requires c =
     let r = rows c.args.tags c.args.blocks.now c.args.terms.now in
-    let ok = c.in-ok-assigned.ensures in
+    let ok = c.in_ok-assigned.ensures in
     record {
       rules = ok.0;
-      assigned = listed_front (block_of (told r)) c.in-ok-assigned.assigned (length c.args.terms.now) _ 0 (omega arith) (omega (arith, ok.0.framed.sizes.few_terms)) ok.1;
+      assigned = listed_front (block_of (told r)) c.in_ok-assigned.assigned (length c.args.terms.now) _ 0 (omega arith) (omega (arith, ok.0.framed.sizes.few_terms)) ok.1;
     }

@@ -13,7 +13,7 @@ returns-in-Some c =
     let q = table_of query in
     let row = row_found vec_items (vec_items query.reached) c.deref.result.now (reached_row query) query.tags c.args.tag query.reached_stand c.deref.ensures.value c.in-Some.reached c.in-Some.ensures.lookup in
     let found = c.copied.ensures ∙ picked c.deref-in-Some.result.now c.args.block c.get-in-Some.result c.get-in-Some.ensures.lookup ∙ ap (λ l. slice_get l c.args.block) (c.deref-in-Some.ensures.value ∙ row.1) ∙ nth_listed (reached_before (vec_items query.assigned) q.terms c.args.tag (length q.terms)) _ c.args.block in
-    reached_says q (rules_kept query) (vec_items query.assigned) query.assigned_stand c.args.tag c.args.block c.unwrap-or.result (c.unwrap-or.ensures ∙ ap (λ o. unwrap_or o false) found)
+    reached_says q (rules_kept query) (vec_items query.assigned) query.assigned_stand c.args.tag c.args.block c.unwrap_or.result (c.unwrap_or.ensures ∙ ap (λ o. unwrap_or o false) found)
 
 pub returns-in-None : goal.returns-in-None
 returns-in-None c =

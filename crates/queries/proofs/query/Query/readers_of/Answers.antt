@@ -13,7 +13,7 @@ returns-in-Some c =
     let n = length q.terms in
     let row = row_found vec_items (vec_items query.readers) c.deref.result.now (readers_before assigned q.terms n) n c.args.term query.readers_stand c.deref.ensures.value c.in-Some.readers c.in-Some.ensures.lookup in
     record {
-      lists = subst (ListsReaders q c.args.term) (sym (c.as-slice.ensures.value ∙ row.1)) (readers_right q assigned query.assigned_stand c.args.term row.0);
+      lists = subst (ListsReaders q c.args.term) (sym (c.as_slice.ensures.value ∙ row.1)) (readers_right q assigned query.assigned_stand c.args.term row.0);
       past = λ h. absurd (omega (arith, row.0));
     }
 

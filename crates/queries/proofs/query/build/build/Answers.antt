@@ -36,24 +36,24 @@ module _ (assigned given : List ℕ) (lent terms : List Term) (kept : assigned �
   reached_lent : (v : List (List Bool)) (tags n m : ℕ) → v ≡ listed (λ tag. listed (reached_before given lent tag (length lent)) n) tags → n ≡ m → v ≡ listed (λ tag. listed (reached_before assigned terms tag (length terms)) m) tags
   reached_lent v tags n m e count = e ∙ ap₂ (λ hs ts. listed (λ tag. listed (reached_before hs ts tag (length ts)) n) tags) (sym kept) same ∙ ap (λ k. listed (λ tag. listed (reached_before assigned terms tag (length terms)) k) tags) count
 
-pub readers-of-requires : goal.readers-of-requires
-readers-of-requires c = record {
+pub readers_of-requires : goal.readers_of-requires
+readers_of-requires c = record {
   assigned = long c.args.assigned.now (block_of (table c.args.tags (vec_items c.args.blocks) (vec_items c.args.terms))) (vec_items c.args.terms) c.deref-2.result.now c.requires.assigned c.deref-2.ensures.value;
   operands = operands c.args.assigned.now (block_of (table c.args.tags (vec_items c.args.blocks) (vec_items c.args.terms))) (vec_items c.args.terms) c.deref-2.result.now c.requires.assigned c.deref-2.ensures.value c.requires.rules.operands_stand;
 }
 
-pub reached-of-requires : goal.reached-of-requires
-reached-of-requires c = record {
+pub reached_of-requires : goal.reached_of-requires
+reached_of-requires c = record {
   assigned = long c.args.assigned.now (block_of (table c.args.tags (vec_items c.args.blocks) (vec_items c.args.terms))) (vec_items c.args.terms) c.deref-3.result.now c.requires.assigned c.deref-3.ensures.value;
   blocks = λ i h. in_some_block c.args.blocks (vec_items c.args.terms) c.args.assigned.now c.deref-3.result.now c.len.result c.requires.rules.sized.all_dealt c.requires.assigned c.deref-3.ensures.value c.len.ensures i h;
   operands = operands c.args.assigned.now (block_of (table c.args.tags (vec_items c.args.blocks) (vec_items c.args.terms))) (vec_items c.args.terms) c.deref-3.result.now c.requires.assigned c.deref-3.ensures.value c.requires.rules.operands_stand;
 }
 
-pub invariant-of-result : goal.invariant-of-result
-invariant-of-result c =
+pub invariant_of-result : goal.invariant_of-result
+invariant_of-result c =
     let rules = c.requires.rules in
-    let same : vec_items c.in-ok-assigned.assigned ≡ c.args.assigned.now = c.in-ok-assigned.ensures.items in
-    let assigned = vec_items c.in-ok-assigned.assigned in
+    let same : vec_items c.in_ok-assigned.assigned ≡ c.args.assigned.now = c.in_ok-assigned.ensures.items in
+    let assigned = vec_items c.in_ok-assigned.assigned in
     let terms = vec_items c.args.terms in
     let blocks = vec_items c.args.blocks in (
       rules.sized.few_tags,
@@ -76,11 +76,11 @@ invariant-of-result c =
                       (
                         same ∙ c.requires.assigned,
                         (
-                          spans_lent (vec_items c.in-ok-spans.spans) c.deref.result.now blocks c.in-ok-spans.ensures c.deref.ensures.value,
+                          spans_lent (vec_items c.in_ok-spans.spans) c.deref.result.now blocks c.in_ok-spans.ensures c.deref.ensures.value,
                           (
-                            readers_lent assigned c.args.assigned.now c.deref-2.result.now terms same c.deref-2.ensures.value (map vec_items (vec_items c.in-ok-readers.readers)) c.in-ok-readers.ensures,
+                            readers_lent assigned c.args.assigned.now c.deref-2.result.now terms same c.deref-2.ensures.value (map vec_items (vec_items c.in_ok-readers.readers)) c.in_ok-readers.ensures,
                             (
-                              reached_lent assigned c.args.assigned.now c.deref-3.result.now terms same c.deref-3.ensures.value (map vec_items (vec_items c.in-ok-reached.reached)) c.args.tags c.len.result (length blocks) c.in-ok-reached.ensures (c.len.ensures ∙ c.args.blocks.ok.0),
+                              reached_lent assigned c.args.assigned.now c.deref-3.result.now terms same c.deref-3.ensures.value (map vec_items (vec_items c.in_ok-reached.reached)) c.args.tags c.len.result (length blocks) c.in_ok-reached.ensures (c.len.ensures ∙ c.args.blocks.ok.0),
                               tt,
                             ),
                           ),

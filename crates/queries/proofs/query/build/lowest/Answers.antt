@@ -10,8 +10,8 @@ one = 0 ∷ []
 pub build-requires : goal.build-requires
 unfolding one
 build-requires c =
-    let blocks = sym c.in-ok-blocks.ensures.items in
-    let terms = sym c.in-ok-terms.ensures.items in
+    let blocks = sym c.in_ok-blocks.ensures.items in
+    let terms = sym c.in_ok-terms.ensures.items in
     record {
       rules = subst₂ (λ bs ts. Admitted (table 0 bs ts)) blocks terms lowest_admitted;
       assigned = subst₂ (λ bs ts. one ≡ listed (dealt bs) (length ts)) blocks terms refl;

@@ -10,8 +10,8 @@ use Rattle.queries.proofs.query.build.told.Goals as goal
 pub build-requires : goal.build-requires
 build-requires c =
     let r = rows c.args.tags c.args.blocks.now c.args.terms.now in
-    let blocks = sym c.in-ok-blocks.ensures in
-    let terms = sym c.in-ok-terms.ensures in
+    let blocks = sym c.in_ok-blocks.ensures in
+    let terms = sym c.in_ok-terms.ensures in
     record {
       rules = subst₂ (λ bs ts. Admitted (table c.args.tags bs ts)) blocks terms (told_admitted_lem r c.requires.rules);
       assigned = c.requires.assigned ∙ ap (listed (block_of (told-by r))) (sym (length-map c.args.terms.now (λ row. unwrap_or (term_in row) Lowest))) ∙ ap₂ (λ bs ts. listed (dealt bs) (length ts)) blocks terms;

@@ -2,8 +2,8 @@ use Rattle.std.proofs.Common.{true, false, rules}
 use Rattle.queues.proofs.Lists.{put_lists, put_above}
 use Rattle.queues.proofs.queue.Queue.put.Goals as goal
 
-pub returns-then-not-is-free : goal.returns-then-not-is-free
-returns-then-not-is-free c =
+pub returns-then-not-is_free : goal.returns-then-not-is_free
+returns-then-not-is_free c =
     record {
       value = search rules;
       table = search rules;

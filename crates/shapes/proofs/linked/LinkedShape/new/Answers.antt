@@ -4,7 +4,7 @@ use Rattle.shapes.specs.Tree.{Countable}
 use Rattle.shapes.specs.Verdicts.{one_node}
 use Rattle.shapes.proofs.linked.LinkedShape.new.Goals as goal
 
-pub invariant-of-result : goal.invariant-of-result
-invariant-of-result c =
-    let e = sym c.in-ok-rows.ensures in
+pub invariant_of-result : goal.invariant_of-result
+invariant_of-result c =
+    let e = sym c.in_ok-rows.ensures in
     (subst (λ rows. Countable (length rows)) e (omega arith), (subst Certified e one_node, tt))

@@ -3,4 +3,4 @@ use Rattle.shapes.specs.Verdicts.{verdict}
 use Rattle.shapes.proofs.linked.filling.is_lawful.Goals as goal
 
 pub returns : goal.returns
-returns c = verdict c.args.rows.now c.deref.result.now c.all-certified.result c.requires (c.deref.ensures.value ∙ c.in-Ok.ensures) c.all-certified.ensures
+returns c = verdict c.args.rows.now c.deref.result.now c.all_certified.result c.requires (c.deref.ensures.value ∙ c.in-Ok.ensures) c.all_certified.ensures

@@ -17,10 +17,10 @@ returns-in-Err-step g c m = of_call c.args.call _ c.in-Step.is (c.in-Err-step.en
 pub returns-in-Ok-run : goal.returns-in-Ok-run
 returns-in-Ok-run g c m = of_call c.args.call _ c.in-Run.is (c.in-Ok-run.ensures.rules m)
 
-pub returns-in-Ok-from-slice : goal.returns-in-Ok-from-slice
-returns-in-Ok-from-slice g c m =
+pub returns-in-Ok-from_slice : goal.returns-in-Ok-from_slice
+returns-in-Ok-from_slice g c m =
     of_call c.args.call _ c.in-Read.is
-    (λ s st. (s, (of_row (vec_items c.in-Ok-from-slice.copy) _ g.G.Grade.kind.lowest c.in-Ok-from-slice.ensures.items (c.in-Ok-read.ensures.rules m s _ _ st), st)))
+    (λ s st. (s, (of_row (vec_items c.in-Ok-from_slice.copy) _ g.G.Grade.kind.lowest c.in-Ok-from_slice.ensures.items (c.in-Ok-read.ensures.rules m s _ _ st), st)))
 
 pub returns-in-Err-read : goal.returns-in-Err-read
 returns-in-Err-read g c m = of_call c.args.call _ c.in-Read.is (λ s st. (s, (c.in-Err-read.ensures.rules m s _ _ st, st)))

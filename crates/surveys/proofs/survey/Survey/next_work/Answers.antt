@@ -10,7 +10,7 @@ returns-in-Some g c = goes_on c.in-Some.work c.in-Some.is
 
 pub returns : goal.returns
 returns g c =
-    let block = c.in-ok-block.block in
+    let block = c.in_ok-block.block in
     subst (λ q. TakesUp (table_of c.args.query.now) (g.S.Shape.count c.args.shape.now) c.args.self.now (record { block = block; queue = q }))
-    (sym (c.rising_queue.ensures.value ∙ ap rising_queue c.block-size.ensures))
-    (begins block c.in-default.is c.in-ok-block.ensures)
+    (sym (c.rising_queue.ensures.value ∙ ap rising_queue c.block_size.ensures))
+    (begins block c.in_default.is c.in_ok-block.ensures)

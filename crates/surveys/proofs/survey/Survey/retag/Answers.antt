@@ -19,7 +19,7 @@ returns-then-not-fits g c =
     let q = table_of c.args.query.now in
     let v = c.args.self.now in
     let l = lent c.args.marks.now c.args.values.now c.args.waiting.now in
-    let unfit = unfit_as v l c.node-count.result c.term-count.result t.count (length q.terms) c.node-count.ensures c.term-count.ensures c.if-not-fits.ensures.1 in
+    let unfit = unfit_as v l c.node_count.result c.term_count.result t.count (length q.terms) c.node_count.ensures c.term_count.ensures c.if-not-fits.ensures.1 in
     record {
       rules = λ m. unfit_by_rules (opening k t q m) v l c.args.mark.node c.args.mark.tag c.args.mark.grade unfit (retag c.args.mark.node c.args.mark.tag c.args.mark.grade) (refused TableOrCounts) v l;
       answer = (unfit, nothing_altered v l);
@@ -27,35 +27,35 @@ returns-then-not-fits g c =
       waiting = same_within (v.terms * v.nodes) l.waiting;
     }
 
-pub returns-then-not-has-mark : goal.returns-then-not-has-mark
-returns-then-not-has-mark g c =
+pub returns-then-not-has_mark : goal.returns-then-not-has_mark
+returns-then-not-has_mark g c =
     let k = g.G.Grade.kind in
     let t = tree_of g.S.Shape c.args.shape.now in
     let q = table_of c.args.query.now in
     let v = c.args.self.now in
     let l = lent c.args.marks.now c.args.values.now c.args.waiting.now in
-    let fits = fits_as v l c.node-count.result c.term-count.result t.count (length q.terms) c.node-count.ensures c.term-count.ensures (c.if-not-fits.ensures.0 tt) in
+    let fits = fits_as v l c.node_count.result c.term_count.result t.count (length q.terms) c.node_count.ensures c.term_count.ensures (c.if-not-fits.ensures.0 tt) in
     record {
-      rules = λ m. absent_by_rules (opening k t q m) v l c.args.mark.node c.args.mark.tag c.args.mark.grade c.if-not-has-mark.ensures.1;
-      answer = ((fits, c.if-not-has-mark.ensures.1), nothing_altered v l);
+      rules = λ m. absent_by_rules (opening k t q m) v l c.args.mark.node c.args.mark.tag c.args.mark.grade c.if-not-has_mark.ensures.1;
+      answer = ((fits, c.if-not-has_mark.ensures.1), nothing_altered v l);
       values = same_within (v.terms * v.nodes) l.values;
       waiting = same_within (v.terms * v.nodes) l.waiting;
     }
 
-pub overflow-mul-mark : goal.overflow-mul-mark
-overflow-mul-mark g c =
+pub overflow_mul-mark : goal.overflow_mul-mark
+overflow_mul-mark g c =
     let v = c.args.self.now in
     let l = lent c.args.marks.now c.args.values.now c.args.waiting.now in
-    let there = c.if-not-has-mark.ensures.0 tt in
+    let there = c.if-not-has_mark.ensures.0 tt in
     let inside : place v.nodes c.args.mark.tag c.args.mark.node < length c.args.marks.now = mark_there v l c.args.mark.node c.args.mark.tag (c.if-not-fits.ensures.0 tt).roomy there.0 there.1 in
     let low : c.args.mark.tag * v.nodes ≤ length c.args.marks.now = omega arith in
     search rules
 
-pub overflow-add-mark : goal.overflow-add-mark
-overflow-add-mark g c =
+pub overflow_add-mark : goal.overflow_add-mark
+overflow_add-mark g c =
     let v = c.args.self.now in
     let l = lent c.args.marks.now c.args.values.now c.args.waiting.now in
-    let there = c.if-not-has-mark.ensures.0 tt in
+    let there = c.if-not-has_mark.ensures.0 tt in
     let inside : c.args.mark.tag * v.nodes + c.args.mark.node < length c.args.marks.now = mark_there v l c.args.mark.node c.args.mark.tag (c.if-not-fits.ensures.0 tt).roomy there.0 there.1 in
     search rules
 
@@ -63,7 +63,7 @@ pub put-altered-requires : goal.put-altered-requires
 put-altered-requires g c =
     let v = c.args.self.now in
     let l = lent c.args.marks.now c.args.values.now c.args.waiting.now in
-    let there = c.if-not-has-mark.ensures.0 tt in
+    let there = c.if-not-has_mark.ensures.0 tt in
     mark_there v l c.args.mark.node c.args.mark.tag (c.if-not-fits.ensures.0 tt).roomy there.0 there.1
 
 pub returns-then-altered : goal.returns-then-altered
@@ -75,8 +75,8 @@ returns-then-altered g c =
     let v' = c.restart.new.self in
     let l = lent c.args.marks.now c.args.values.now c.args.waiting.now in
     let l' = lent c.put-altered.new.marks c.restart.new.values c.restart.new.waiting in
-    let fits = fits_as v l c.node-count.result c.term-count.result t.count (length q.terms) c.node-count.ensures c.term-count.ensures (c.if-not-fits.ensures.0 tt) in
-    let there = c.if-not-has-mark.ensures.0 tt in
+    let fits = fits_as v l c.node_count.result c.term_count.result t.count (length q.terms) c.node_count.ensures c.term_count.ensures (c.if-not-fits.ensures.0 tt) in
+    let there = c.if-not-has_mark.ensures.0 tt in
     record {
       rules = λ m. altered_so (opening k t q m) (rules_kept c.args.query.now) v v' l l' c.args.mark.node c.args.mark.tag c.args.mark.grade there.0 there.1 c.if-altered.ensures.says c.put-altered.ensures.after c.restart.ensures c.put-altered.result c.if-altered.true;
       answer = remarks_altered k t q v l c.args.mark.node c.args.mark.tag c.args.mark.grade fits there.0 there.1 c.put-altered.new.marks c.put-altered.ensures.after c.if-altered.ensures.says c.put-altered.result c.if-altered.true v' c.restart.new.values c.restart.new.waiting c.restart.ensures;
@@ -91,8 +91,8 @@ returns-else-altered g c =
     let q = table_of c.args.query.now in
     let v = c.args.self.now in
     let l = lent c.args.marks.now c.args.values.now c.args.waiting.now in
-    let fits = fits_as v l c.node-count.result c.term-count.result t.count (length q.terms) c.node-count.ensures c.term-count.ensures (c.if-not-fits.ensures.0 tt) in
-    let there = c.if-not-has-mark.ensures.0 tt in
+    let fits = fits_as v l c.node_count.result c.term_count.result t.count (length q.terms) c.node_count.ensures c.term_count.ensures (c.if-not-fits.ensures.0 tt) in
+    let there = c.if-not-has_mark.ensures.0 tt in
     record {
       rules = λ m. unaltered_by_rules k t q v l c.args.mark.node c.args.mark.tag c.args.mark.grade fits there.0 there.1 c.put-altered.new.marks c.put-altered.ensures.after m c.if-altered.ensures.says c.put-altered.result c.if-altered.false;
       answer = remarks_same k t q v l c.args.mark.node c.args.mark.tag c.args.mark.grade fits there.0 there.1 c.put-altered.new.marks c.put-altered.ensures.after c.if-altered.ensures.says c.put-altered.result c.if-altered.false;

@@ -14,14 +14,14 @@ loop-made-preserved g c =
 pub returns-in-Err : goal.returns-in-Err
 returns-in-Err g c =
     let e = c.in-Err.ensures in
-    let r = run_refused c.args.most c.loop-made.made c.is-none.result c.in-Err.field-0 (omega arith) c.loop-made.invariant e.rules e.refusals.1.0 e.refusals.1.1 (found_says c.step.new.self c.first_stale.result c.is-none.result c.is-none.ensures c.first_stale.ensures) in
-    record { rules = r.0; answer = (rw (c.node-count.ensures, c.term-count.ensures) at (c.if-not-fits.ensures.0 tt), runs_within c.args.most (omega arith) r.1) }
+    let r = run_refused c.args.most c.loop-made.made c.is_none.result c.in-Err.field-0 (omega arith) c.loop-made.invariant e.rules e.refusals.1.0 e.refusals.1.1 (found_says c.step.new.self c.first_stale.result c.is_none.result c.is_none.ensures c.first_stale.ensures) in
+    record { rules = r.0; answer = (rw (c.node_count.ensures, c.term_count.ensures) at (c.if-not-fits.ensures.0 tt), runs_within c.args.most (omega arith) r.1) }
 
 pub returns : goal.returns
 returns g c =
     let e : c.loop-made.made ≡ c.args.most = omega arith in
     let h = rw e at c.loop-made.invariant in
     record {
-      rules = run_done c.args.most c.args.most c.is-none-2.result (omega arith) h (found_says c.loop-made.self c.first-stale-2.result c.is-none-2.result c.is-none-2.ensures c.first-stale-2.ensures) (λ less. absurd (omega arith));
-      answer = (rw (c.node-count.ensures, c.term-count.ensures) at (c.if-not-fits.ensures.0 tt), runs_within c.args.most (omega arith) h);
+      rules = run_done c.args.most c.args.most c.is_none-2.result (omega arith) h (found_says c.loop-made.self c.first_stale-2.result c.is_none-2.result c.is_none-2.ensures c.first_stale-2.ensures) (λ less. absurd (omega arith));
+      answer = (rw (c.node_count.ensures, c.term_count.ensures) at (c.if-not-fits.ensures.0 tt), runs_within c.args.most (omega arith) h);
     }

@@ -12,9 +12,9 @@ idle v = record { nodes = v.nodes; tags = v.tags; terms = v.terms; blocks = v.bl
 pub returns : goal.returns
 unfolding idle
 returns c =
-    stored_none (head_of c.args.work.queue) c.args.self.now c.args.work _ c.is-none.result c.is-done.result c.is-done.ensures c.if-not-is-done.false
+    stored_none (head_of c.args.work.queue) c.args.self.now c.args.work _ c.is_none.result c.is_done.result c.is_done.ensures c.if-not-is_done.false
     (elim c.if-work-lt64.branch [
       | then-work-lt64 w ↦ ap idle w.self-is
       | else-work-lt64 w ↦ ap idle w.self-is ∙ closed_past c.args.self.now c.args.work.block (search rules)
     ])
-    (found_says _ c.first_stale.result c.is-none.result c.is-none.ensures c.first_stale.ensures)
+    (found_says _ c.first_stale.result c.is_none.result c.is_none.ensures c.first_stale.ensures)

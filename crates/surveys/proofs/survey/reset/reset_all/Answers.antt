@@ -13,9 +13,9 @@ loop-block-init g c = resets_none g.G.Grade.kind (table_of c.args.query.now) c.a
 pub loop-block-preserved : goal.loop-block-preserved
 loop-block-preserved g c =
     resets_more g.G.Grade.kind (table_of c.args.query.now) c.args.nodes (λ b. b < c.loop-block.block) (λ b. b < c.loop-block.block + 1) c.loop-block.block
-    (λ b h. omega arith) (below_or_here c.loop-block.block) (omega arith) c.args.values.now c.loop-block.values c.reset-block.new.values c.loop-block.invariant c.reset-block.ensures
+    (λ b h. omega arith) (below_or_here c.loop-block.block) (omega arith) c.args.values.now c.loop-block.values c.reset_block.new.values c.loop-block.invariant c.reset_block.ensures
 
 pub returns : goal.returns
 returns g c =
     resets_like g.G.Grade.kind (table_of c.args.query.now) c.args.nodes (λ b. b < c.loop-block.block) (λ b. b < length (table_of c.args.query.now).blocks)
-    (λ b h. omega (arith, c.block-count-block-end.ensures)) (λ b h. omega (arith, c.block-count-block-end.ensures)) c.args.values.now c.loop-block.values c.loop-block.invariant
+    (λ b h. omega (arith, c.block_count-block-end.ensures)) (λ b h. omega (arith, c.block_count-block-end.ensures)) c.args.values.now c.loop-block.values c.loop-block.invariant

@@ -19,27 +19,27 @@ no_solution q b h e =
     let z : ◌≡◌ {A = ℕ} 0 1 = cc in
     omega arith
 
-pub returns-in-default : goal.returns-in-default
-returns-in-default g c =
+pub returns-in_default : goal.returns-in_default
+returns-in_default g c =
     let q = table_of c.args.query.now in
     resets_none g.G.Grade.kind q c.args.nodes (λ b. b ≡ c.args.block)
-    (λ i h e. omega (arith, block_stands (rules_kept c.args.query.now) i h, c.in-default.ensures)) c.args.values.now
+    (λ i h e. omega (arith, block_stands (rules_kept c.args.query.now) i h, c.in_default.ensures)) c.args.values.now
 
-pub returns-in-default-solution : goal.returns-in-default-solution
-returns-in-default-solution g c = absurd (no_solution (table_of c.args.query.now) c.args.block c.in-Some.ensures.stands c.in-default-solution.ensures)
+pub returns-in_default-solution : goal.returns-in_default-solution
+returns-in_default-solution g c = absurd (no_solution (table_of c.args.query.now) c.args.block c.in-Some.ensures.stands c.in_default-solution.ensures)
 
 -- the terms of a block are some of all
 rows_end : (q : Table) → Admitted q → (b : ℕ) (s : Span) → Spans q b s → (n : ℕ) → (s.first * n ≤ s.end * n) × (s.end * n ≤ length q.terms * n)
 rows_end q admitted b s spans n = let r = spanned q admitted b s spans in (mul-le-mul_right n r.starts, mul-le-mul_right n r.ends)
 
-pub overflow-mul-span : goal.overflow-mul-span
-overflow-mul-span g c =
+pub overflow_mul-span : goal.overflow_mul-span
+overflow_mul-span g c =
     let e = rows_end (table_of c.args.query.now) (rules_kept c.args.query.now) c.args.block c.in-Some.span c.in-Some.ensures c.args.nodes in
     let low : c.in-Some.span.first * c.args.nodes ≤ length c.args.values.now = omega (arith, e.0, e.1, c.requires) in
     search rules
 
-pub overflow-mul-span-2 : goal.overflow-mul-span-2
-overflow-mul-span-2 g c =
+pub overflow_mul-span-2 : goal.overflow_mul-span-2
+overflow_mul-span-2 g c =
     let e = rows_end (table_of c.args.query.now) (rules_kept c.args.query.now) c.args.block c.in-Some.span c.in-Some.ensures c.args.nodes in
     let high : c.in-Some.span.end * c.args.nodes ≤ length c.args.values.now = omega (arith, e.1, c.requires) in
     search rules
@@ -53,5 +53,5 @@ pub returns : goal.returns
 returns g c =
     let q = table_of c.args.query.now in
     resets_block g.G.Grade.kind q c.args.nodes c.args.block c.in-Some.span c.in-Some.ensures c.args.values.now c.fill.new.places c.fill.auto.places
-    (λ p d low high. c.fill.ensures.inside p d low high ∙ c.start-value.ensures ∙ ap (start g.G.Grade.kind) (its_solution q c.args.block c.in-Some.ensures.stands c.in-Some-solution.solution c.in-Some-solution.ensures))
+    (λ p d low high. c.fill.ensures.inside p d low high ∙ c.start_value.ensures ∙ ap (start g.G.Grade.kind) (its_solution q c.args.block c.in-Some.ensures.stands c.in-Some-solution.solution c.in-Some-solution.ensures))
     c.fill.ensures.outside

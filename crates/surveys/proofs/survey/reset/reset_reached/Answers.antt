@@ -27,7 +27,7 @@ loop-block-preserved g c =
     elim c.if-reaches.branch [
       | then-reaches w ↦
           rw w.values-is (resets_more g.G.Grade.kind q c.args.nodes (ReachedBefore q c.args.tag n) (ReachedBefore q c.args.tag (n + 1)) n
-          (λ b h. (omega (arith, h.0), h.1)) (or_here q c.args.tag n) (omega arith, w.if-reaches.ensures.0 tt) c.args.values.now c.loop-block.values w.reset-block.new.values c.loop-block.invariant w.reset-block.ensures)
+          (λ b h. (omega (arith, h.0), h.1)) (or_here q c.args.tag n) (omega arith, w.if-reaches.ensures.0 tt) c.args.values.now c.loop-block.values w.reset_block.new.values c.loop-block.invariant w.reset_block.ensures)
       | else-reaches w ↦
           rw w.values-is (resets_like g.G.Grade.kind q c.args.nodes (ReachedBefore q c.args.tag n) (ReachedBefore q c.args.tag (n + 1))
           (λ b h. (omega (arith, h.0), h.1)) (λ b. not_here q c.args.tag n b w.if-reaches.ensures.1) c.args.values.now c.loop-block.values c.loop-block.invariant)

@@ -31,5 +31,5 @@ released q tag m current work w w' is reached clears = rw is (inl (reached, refl
 
 pub returns : goal.returns
 returns c =
-    released (table_of c.args.query.now) c.args.tag c.args.entries c.args.current c.in-ok-work.work c.args.waiting.now _ c.in-ok-work.was (c.if-not-reaches.ensures.0 tt)
-    (cleared c.args.waiting.now c.clear.new.waiting c.args.entries c.in-ok-work.work.queue.size c.requires c.clear.ensures.len c.clear.ensures.below c.clear.ensures.above)
+    released (table_of c.args.query.now) c.args.tag c.args.entries c.args.current c.in_ok-work.work c.args.waiting.now _ c.in_ok-work.was (c.if-not-reaches.ensures.0 tt)
+    (cleared c.args.waiting.now c.clear.new.waiting c.args.entries c.in_ok-work.work.queue.size c.requires c.clear.ensures.len c.clear.ensures.below c.clear.ensures.above)

@@ -4,17 +4,17 @@ use Rattle.queries.proofs.Questions.{rules_kept}
 use Rattle.surveys.proofs.Spanning.{no_terms, spans_terms, few_entries}
 use Rattle.surveys.proofs.survey.upcoming.block_size.Goals as goal
 
-pub overflow-sub-result : goal.overflow-sub-result
-overflow-sub-result g c = (spans_terms (rules_kept c.args.query.now) c.args.block c.in-Some.span c.in-Some.ensures).0
+pub overflow_sub-result : goal.overflow_sub-result
+overflow_sub-result g c = (spans_terms (rules_kept c.args.query.now) c.args.block c.in-Some.span c.in-Some.ensures).0
 
-pub overflow-mul-result : goal.overflow-mul-result
-overflow-mul-result g c =
+pub overflow_mul-result : goal.overflow_mul-result
+overflow_mul-result g c =
     let terms = (spans_terms (rules_kept c.args.query.now) c.args.block c.in-Some.span c.in-Some.ensures).1 in
     let nodes = (g.met.S.Shape.laws c.args.shape.now).countable.1 in
-    omega (arith, few_entries (rules_kept c.args.query.now) c.args.block (g.S.Shape.count c.args.shape.now) nodes, ap₂ (λ a b. a * b) terms c.node-count.ensures)
+    omega (arith, few_entries (rules_kept c.args.query.now) c.args.block (g.S.Shape.count c.args.shape.now) nodes, ap₂ (λ a b. a * b) terms c.node_count.ensures)
 
 pub returns-in-Some : goal.returns-in-Some
-returns-in-Some g c = ap₂ (λ a b. a * b) (spans_terms (rules_kept c.args.query.now) c.args.block c.in-Some.span c.in-Some.ensures).1 c.node-count.ensures
+returns-in-Some g c = ap₂ (λ a b. a * b) (spans_terms (rules_kept c.args.query.now) c.args.block c.in-Some.span c.in-Some.ensures).1 c.node_count.ensures
 
 pub returns-in-None : goal.returns-in-None
 returns-in-None g c =
