@@ -1,7 +1,7 @@
 -- Lines of depths: cutting one line off a text.
-use Rattle.std.proofs.Common.{◌≡◌, ℕ, suc, ◌+◌, ◌-◌, ◌*◌, ◌^◌, ◌<◌, ◌≤◌, min, List, [], ◌∷◌, ◌++◌, map, length, get_or, take, drop, replicate, decimal, sym, refl, ap, ◌∙◌, add-mul, arith}
-use Rattle.std.specs.List.{flat_map, AllByRecursion as All}
-use Rattle.std.proofs.lemmas.List.{drop_more, drop_all, drop-drop, take-append-drop, length-append, length-replicate, take_at, drop_at, get_or_at, flat_map_more, map_push, length_push, take_all, take-take, drop-take, length-take, length-drop}
+use Rattle.std.proofs.Common.{◌≡◌, ℕ, suc, ◌+◌, ◌-◌, ◌*◌, ◌^◌, ◌<◌, ◌≤◌, min, List, [], ◌∷◌, ◌++◌, length, get_or, take, drop, replicate, decimal, sym, refl, ap, ◌∙◌, add-mul, arith}
+use Rattle.std.specs.List.{flat_map}
+use Rattle.std.proofs.lemmas.List.{drop_more, drop_all, drop-drop, take-append-drop, length-append, length-replicate, take_at, get_or_at, flat_map_more, map_push, length_push, take_all, take-take, drop-take, length-take, length-drop}
 use Rattle.std.proofs.lemmas.Fmt.{length-decimal-le}
 use Rattle.std.proofs.ByRecursion.{All-push}
 use Rattle.files.specs.Fields.{field, Shows}

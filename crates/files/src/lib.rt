@@ -1,3 +1,5 @@
 //! Text that models are kept in: number fields and lines.
+#![tactic(auto)]
+
 pub mod depths;
 pub mod field;

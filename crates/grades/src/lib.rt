@@ -1,4 +1,6 @@
 //! Grades: how far a thing holds at a node of a junction model.
+#![tactic(auto)]
+
 pub mod by_stage;
 pub mod filed;
 pub mod grade;

@@ -8,7 +8,6 @@ use Rattle.queues.specs.declared.queue.Queue.{Queue}
 use Rattle.queues.specs.Calls.{front, rising_queue}
 use Rattle.queues.specs.Threads.{In, Distinct, Linked, ends_of, Threads, run, first, rest}
 use Rattle.queues.proofs.Entries as entries
-use Rattle.queues.proofs.Chains as chains
 use Rattle.queues.proofs.Lists as lists
 
 -- The entries of the list are the queue's, and none stands twice.

@@ -1,4 +1,6 @@
 //! A queue of entries that is threaded through a lent table.
+#![tactic(auto)]
+
 pub mod queue;
 #[cfg(test)]
 mod tests;

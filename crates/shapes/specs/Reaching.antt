@@ -256,7 +256,7 @@ visit_here rows i s h = cond-true (nat_lt i (length s.order)) _ s (lt-ltb _ _ h)
 
 -- the same, by the steps of the code
 pub visit_steps : (rows : List Links) (i : ℕ) (s s' : Reached) (node level : ℕ) (row : Links) → i < length s.order → node ≡ node_at s i → level ≡ slice_index s.levels node → row ≡ slice_index_or rows node no_links → s' ≡ reach_both_lem (level + 1) row s → s' ≡ visit rows i s
-visit_steps rows i s s' node level row here node_is level_is row_is both =
+visit_steps rows i s s' node above links here node_is level_is row_is both =
     both
     ∙ (ap₂ (λ l r. reach_both_lem l r s) (ap (λ l. l + 1) (level_is ∙ ap (λ x. slice_index s.levels x) node_is)) (row_is ∙ ap (λ x. get_or rows x no_links) node_is)
     ∙ sym (visit_here rows i s here))

@@ -1,4 +1,6 @@
 //! Shapes: sibling trees behind one interface.
+#![tactic(auto)]
+
 pub mod address;
 pub mod axis;
 mod certified;

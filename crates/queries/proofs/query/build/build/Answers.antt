@@ -55,43 +55,19 @@ invariant_of-result c =
     let same : vec_items c.in_ok-assigned.assigned ≡ c.args.assigned.now = c.in_ok-assigned.ensures.items in
     let assigned = vec_items c.in_ok-assigned.assigned in
     let terms = vec_items c.args.terms in
-    let blocks = vec_items c.args.blocks in (
-      rules.sized.few_tags,
-      (
-        rules.sized.some_term,
-        (
-          rules.sized.few_terms,
-          (
-            rules.sized.no_empty_block,
-            (
-              rules.sized.all_dealt,
-              (
-                rules.tag_stands,
-                (
-                  rules.operands_stand,
-                  (
-                    rules.no_later_block,
-                    (
-                      rules.turn_earlier,
-                      (
-                        same ∙ c.requires.assigned,
-                        (
-                          spans_lent (vec_items c.in_ok-spans.spans) c.deref.result.now blocks c.in_ok-spans.ensures c.deref.ensures.value,
-                          (
-                            readers_lent assigned c.args.assigned.now c.deref-2.result.now terms same c.deref-2.ensures.value (map vec_items (vec_items c.in_ok-readers.readers)) c.in_ok-readers.ensures,
-                            (
-                              reached_lent assigned c.args.assigned.now c.deref-3.result.now terms same c.deref-3.ensures.value (map vec_items (vec_items c.in_ok-reached.reached)) c.args.tags c.len.result (length blocks) c.in_ok-reached.ensures (c.len.ensures ∙ c.args.blocks.ok.0),
-                              tt,
-                            ),
-                          ),
-                        ),
-                      ),
-                    ),
-                  ),
-                ),
-              ),
-            ),
-          ),
-        ),
-      ),
-    )
+    let blocks = vec_items c.args.blocks in
+    record {
+      few_tags = rules.sized.few_tags;
+      some_term = rules.sized.some_term;
+      few_terms = rules.sized.few_terms;
+      no_empty_block = rules.sized.no_empty_block;
+      all_dealt = rules.sized.all_dealt;
+      tag_stands = rules.tag_stands;
+      operands_stand = rules.operands_stand;
+      no_later_block = rules.no_later_block;
+      turn_earlier = rules.turn_earlier;
+      assigned_stand = same ∙ c.requires.assigned;
+      spans_stand = spans_lent (vec_items c.in_ok-spans.spans) c.deref.result.now blocks c.in_ok-spans.ensures c.deref.ensures.value;
+      readers_stand = readers_lent assigned c.args.assigned.now c.deref-2.result.now terms same c.deref-2.ensures.value (map vec_items (vec_items c.in_ok-readers.readers)) c.in_ok-readers.ensures;
+      reached_stand = reached_lent assigned c.args.assigned.now c.deref-3.result.now terms same c.deref-3.ensures.value (map vec_items (vec_items c.in_ok-reached.reached)) c.args.tags c.len.result (length blocks) c.in_ok-reached.ensures (c.len.ensures ∙ c.args.blocks.ok.0);
+    }

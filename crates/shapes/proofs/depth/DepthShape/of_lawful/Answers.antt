@@ -12,19 +12,14 @@ reversed-requires c =
     record { inside = previous_inside _ _ back; once = previous_of_one _ _ back }
 
 pub invariant_of-result : goal.invariant_of-result
-invariant_of-result c = (
-  subst (λ v. Countable (length v)) (sym c.in_ok-depths.ensures.items) c.requires.countable,
-  (
-    ∣ subst LawfulDepths (sym c.in_ok-depths.ensures.items) c.requires.lawful ∣₁,
-    (
-      ∣ subst
-          (λ v. DepthTree v (table_tree (vec_items c.in_ok-depths.depths) (vec_items c.in_ok-nexts.nexts) (vec_items c.in_ok-previouses.previouses)))
-          (sym c.in_ok-depths.ensures.items)
-          (copied_tree _ c.in_ok-depths.ensures.items c.deref.ensures.value c.requires.lawful c.in_ok-previouses.ensures c.in_ok-nexts.ensures) ∣₁,
-      tt,
-    ),
-  ),
-)
+invariant_of-result c = record {
+  counted = subst (λ v. Countable (length v)) (sym c.in_ok-depths.ensures.items) c.requires.countable;
+  lawful = ∣ subst LawfulDepths (sym c.in_ok-depths.ensures.items) c.requires.lawful ∣₁;
+  told = ∣ subst
+      (λ v. DepthTree v (table_tree (vec_items c.in_ok-depths.depths) (vec_items c.in_ok-nexts.nexts) (vec_items c.in_ok-previouses.previouses)))
+      (sym c.in_ok-depths.ensures.items)
+      (copied_tree _ c.in_ok-depths.ensures.items c.deref.ensures.value c.requires.lawful c.in_ok-previouses.ensures c.in_ok-nexts.ensures) ∣₁;
+}
 
 pub returns : goal.returns
 returns c = record {
