@@ -5,9 +5,9 @@ use grades::grade::Grade;
 
 /// A reach to the right, a cycle of two terms, and a term defined by itself alone.
 pub fn worked_examples<G: Grade>() -> u8
-    ensures reach { ReachesRight kind }
-    ensures cycle { CycleGreatest kind × CycleLeast kind }
-    ensures itself { ItselfGreatest kind × ItselfLeast kind }
+    ensures reach { ReachesRight G.kind }
+    ensures cycle { CycleGreatest G.kind × CycleLeast G.kind }
+    ensures itself { ItselfGreatest G.kind × ItselfLeast G.kind }
 {
     0
 }

@@ -11,7 +11,7 @@ use shapes::shape::Shape;
 
 /// The grade of a row at a node in a table over `count` nodes; none outside the table.
 pub fn entry_of<G: Grade>(table: &[G], count: usize, row: usize, node: usize) -> Option<G>
-    ensures { SomeIff result (place count row node < length table.now) (grades_in kind count table.now row node) }
+    ensures { SomeIff result (place count row node < length table.now) (grades_in G.kind count table.now row node) }
 {
     let at = row.checked_mul(count)?.checked_add(node)?;
     table.get(at).copied()
@@ -25,7 +25,7 @@ fn entry_at_neighbour<G: Grade>(
     neighbour: Option<usize>,
     other: G,
 ) -> Option<G>
-    ensures { SomeIff result ((y : ℕ) → neighbour ≡ Some y → place count row y < length table.now) (at_or other (grades_in kind count table.now row) neighbour) }
+    ensures { SomeIff result ((y : ℕ) → neighbour ≡ Some y → place count row y < length table.now) (at_or other (grades_in G.kind count table.now row) neighbour) }
 {
     match neighbour {
         Some(y) => entry_of(table, count, row, y),
@@ -41,7 +41,7 @@ fn entries_of<G: Grade>(
     b: usize,
     node: usize,
 ) -> Option<(G, G)>
-    ensures { SomeIff result ((place count a node < length table.now) × (place count b node < length table.now)) (grades_in kind count table.now a node, grades_in kind count table.now b node) }
+    ensures { SomeIff result ((place count a node < length table.now) × (place count b node < length table.now)) (grades_in G.kind count table.now a node, grades_in G.kind count table.now b node) }
 {
     Some((
         entry_of(table, count, a, node)?,
@@ -59,7 +59,7 @@ pub fn grade_of<G: Grade, S: Shape>(
     marks: &[G],
     values: &[G],
 ) -> Option<G>
-    ensures { SomeIff result (Readable (tree_of S.Shape shape.now) marks.now values.now term node) (grade_of_lem kind (tree_of S.Shape shape.now) (grades_in kind (count shape.now) marks.now) (grades_in kind (count shape.now) values.now) term node) }
+    ensures { SomeIff result (Readable (tree_of S.Shape shape.now) marks.now values.now term node) (grade_of_lem G.kind (tree_of S.Shape shape.now) (grades_in G.kind (S.count shape.now) marks.now) (grades_in G.kind (S.count shape.now) values.now) term node) }
 {
     let count = shape.node_count();
     if node >= count {

@@ -5,15 +5,15 @@ use grades::grade::Grade;
 
 /// Every query has one meaning.
 pub fn one_meaning<G: Grade>() -> u8
-    ensures { OneSolution kind }
+    ensures { OneSolution G.kind }
 {
     0
 }
 
 /// Rounds from the start values lead to the meaning.
 pub fn meaning_by_rounds<G: Grade>() -> u8
-    ensures reached { ReachedByRounds kind }
-    ensures kept { KeptByRounds kind }
+    ensures reached { ReachedByRounds G.kind }
+    ensures kept { KeptByRounds G.kind }
 {
     0
 }

@@ -29,7 +29,7 @@ impl Survey {
         waiting: &mut [u32],
         call: Call<G>,
     ) -> Result<Answer<G>, AllocError>
-        ensures { IfOk result (λ a. (m : Grades G) → ByRules (opening kind (tree_of S.Shape shape.now) (table_of query.now) m) (asks call) (answers kind a) self.old (lent marks.old values.old waiting.old) self.new (lent marks.new values.new waiting.new)) }
+        ensures { IfOk result (λ a. (m : Grades G) → ByRules (opening G.kind (tree_of S.Shape shape.now) (table_of query.now) m) (asks call) (answers G.kind a) self.old (lent marks.old values.old waiting.old) self.new (lent marks.new values.new waiting.new)) }
     {
         match call {
             Call::Retag(mark) => match self.retag(shape, query, marks, values, waiting, mark) {
@@ -65,7 +65,7 @@ pub fn conduct<G: Grade, S: Shape>(
     waiting: &mut [u32],
     calls: &[Call<G>],
 ) -> Result<Vec<Answer<G>>, ConductRefusal>
-    ensures { MatchResult result (λ given. (m : Grades G) → Agrees kind (tree_of S.Shape shape.now) (table_of query.now) (lent marks.old values.old waiting.old) m → Conducted (opening kind (tree_of S.Shape shape.now) (table_of query.now) m) calls.now given.items (lent marks.new values.new waiting.new)) (λ why. NotConducted (tree_of S.Shape shape.now) (table_of query.now) (lent marks.old values.old waiting.old) (lent marks.new values.new waiting.new) why) }
+    ensures { MatchResult result (λ given. (m : Grades G) → Agrees G.kind (tree_of S.Shape shape.now) (table_of query.now) (lent marks.old values.old waiting.old) m → Conducted (opening G.kind (tree_of S.Shape shape.now) (table_of query.now) m) calls.now given.items (lent marks.new values.new waiting.new)) (λ why. NotConducted (tree_of S.Shape shape.now) (table_of query.now) (lent marks.old values.old waiting.old) (lent marks.new values.new waiting.new) why) }
 {
     let mut survey = match Survey::open(shape, query, marks, values, waiting) {
         Ok(survey) => survey,

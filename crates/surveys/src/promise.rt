@@ -6,7 +6,7 @@ use grades::grade::Grade;
 
 /// Whatever calls are made on a survey, it keeps its promise.
 pub fn promise_kept<G: Grade>() -> u8
-    ensures { PromiseKept kind }
+    ensures { PromiseKept G.kind }
 {
     0
 }

@@ -24,9 +24,9 @@ impl Survey {
         values: &mut [G],
         waiting: &mut [u32],
     ) -> Result<Survey, SurveyRefusal>
-        ensures answer { MatchResult result (λ v. Opens kind (tree_of S.Shape shape.now) (table_of query.now) (lent marks.now values.old waiting.old) (lent marks.now values.new waiting.new) v) (λ e. RefusedOpening (tree_of S.Shape shape.now) (table_of query.now) (lent marks.now values.old waiting.old) (lent marks.now values.new waiting.new) e) }
-        ensures values { Within (length (table_of query.now).terms * count shape.now) values.old values.new }
-        ensures waiting { Within (length (table_of query.now).terms * count shape.now) waiting.old waiting.new }
+        ensures answer { MatchResult result (λ v. Opens G.kind (tree_of S.Shape shape.now) (table_of query.now) (lent marks.now values.old waiting.old) (lent marks.now values.new waiting.new) v) (λ e. RefusedOpening (tree_of S.Shape shape.now) (table_of query.now) (lent marks.now values.old waiting.old) (lent marks.now values.new waiting.new) e) }
+        ensures values { Within (length (table_of query.now).terms * S.count shape.now) values.old values.new }
+        ensures waiting { Within (length (table_of query.now).terms * S.count shape.now) waiting.old waiting.new }
     {
         let survey = Survey {
             nodes: shape.node_count(),

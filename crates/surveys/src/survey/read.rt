@@ -30,7 +30,7 @@ impl Survey {
         ensures causes { MatchResult result (λ _. Readable self.now (S.Shape.count shape.now) (table_of query.now) (length values.now) term) (λ e. ReadRefused self.now (S.Shape.count shape.now) (table_of query.now) (length values.now) term e) }
         ensures row { IfOk result (λ s. s.now ≡ take (S.Shape.count shape.now) (drop (term * S.Shape.count shape.now) values.now)) }
         ensures place { IfOk result (λ s. (s.ref_ptr.0 ≡ values.entry.ref_ptr.0) × (s.ref_ptr.1 ≡ values.entry.ref_ptr.1 + term * S.Shape.count shape.now * type_size (layout G.row))) }
-        ensures rules { (m : Grades G) (s : State G) (marks : List G) (waiting : List ℕ) → Stands (opening kind (tree_of S.Shape shape.now) (table_of query.now) m) s self.now (lent marks values.now waiting) → Does (opening kind (tree_of S.Shape shape.now) (table_of query.now) m) s (reading term) (of_reading kind result) s }
+        ensures rules { (m : Grades G) (s : State G) (marks : List G) (waiting : List ℕ) → Stands (opening G.kind (tree_of S.Shape shape.now) (table_of query.now) m) s self.now (lent marks values.now waiting) → Does (opening G.kind (tree_of S.Shape shape.now) (table_of query.now) m) s (reading term) (of_reading G.kind result) s }
     {
         let nodes = shape.node_count();
         match self.check_reading(nodes, query, values.len(), term) {

@@ -22,7 +22,7 @@ pub(super) fn fill<G: Copy>(places: &mut [G], from: usize, to: usize, value: G)
 }
 
 fn start_value<G: Grade>(solution: Solution) -> G
-    ensures { result ≡ start kind solution }
+    ensures { result ≡ start G.kind solution }
 {
     match solution {
         Solution::Least => G::lowest(),
@@ -33,7 +33,7 @@ fn start_value<G: Grade>(solution: Solution) -> G
 /// Sets the entries of a block back to their start value.
 fn reset_block<G: Grade>(query: &Query, block: usize, nodes: usize, values: &mut [G])
     requires { length (table_of query.now).terms * nodes ≤ length values.old }
-    ensures { Resets kind (table_of query.now) nodes (λ b. b ≡ block) values.old values.new }
+    ensures { Resets G.kind (table_of query.now) nodes (λ b. b ≡ block) values.old values.new }
 {
     let Some(span) = query.span(block) else {
         return;
@@ -52,7 +52,7 @@ fn reset_block<G: Grade>(query: &Query, block: usize, nodes: usize, values: &mut
 /// Sets the entries of all blocks back to their start values.
 pub(super) fn reset_all<G: Grade>(query: &Query, nodes: usize, values: &mut [G])
     requires { length (table_of query.now).terms * nodes ≤ length values.old }
-    ensures { Resets kind (table_of query.now) nodes (λ b. b < length (table_of query.now).blocks) values.old values.new }
+    ensures { Resets G.kind (table_of query.now) nodes (λ b. b < length (table_of query.now).blocks) values.old values.new }
 {
     for block in 0..query.block_count() {
         reset_block(query, block, nodes, values);
@@ -68,7 +68,7 @@ pub(super) fn reset_reached<G: Grade>(
     values: &mut [G],
 )
     requires { length (table_of query.now).terms * nodes ≤ length values.old }
-    ensures { Resets kind (table_of query.now) nodes (λ b. (b < blocks) × Reaches (table_of query.now) tag b) values.old values.new }
+    ensures { Resets G.kind (table_of query.now) nodes (λ b. (b < blocks) × Reaches (table_of query.now) tag b) values.old values.new }
 {
     for block in 0..blocks {
         if query.reaches(tag, block) {

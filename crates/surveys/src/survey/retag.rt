@@ -29,7 +29,7 @@ pub struct Mark<G> {
 /// Writes a grade to a place, and answers whether that altered it.
 fn put<G: Grade>(marks: &mut [G], place: usize, grade: G) -> bool
     requires { place < length marks.old }
-    ensures says { MatchBool result (slice_index_or marks.old place kind.lowest ≢ grade) (slice_index_or marks.old place kind.lowest ≡ grade) }
+    ensures says { MatchBool result (slice_index_or marks.old place G.kind.lowest ≢ grade) (slice_index_or marks.old place G.kind.lowest ≡ grade) }
     ensures after { marks.new ≡ slice_set marks.old place grade }
 {
     if marks[place].same(grade) {
@@ -75,7 +75,7 @@ impl Survey {
     )
         requires values { length (table_of query.now).terms * self.old.nodes ≤ length values.old }
         requires waiting { self.old.terms * self.old.nodes ≤ length waiting.old }
-        ensures { Restarts kind (table_of query.now) tag self.old self.new values.old values.new waiting.old waiting.new }
+        ensures { Restarts G.kind (table_of query.now) tag self.old self.new values.old values.new waiting.old waiting.new }
     {
         reset_reached(query, tag, self.blocks, self.nodes, values);
         unsettle(query, tag, self.blocks, &mut self.settled);
@@ -94,8 +94,8 @@ impl Survey {
         waiting: &mut [u32],
         mark: Mark<G>,
     ) -> Result<bool, SurveyRefusal>
-        ensures rules { (m : Grades G) → ByRules (opening kind (tree_of S.Shape shape.now) (table_of query.now) m) (retag mark.node mark.tag mark.grade) (of_retag result) self.old (lent marks.old values.old waiting.old) self.new (lent marks.new values.new waiting.new) }
-        ensures answer { RetagAnswers kind (tree_of S.Shape shape.now) (table_of query.now) self.old (lent marks.old values.old waiting.old) mark.node mark.tag mark.grade self.new (lent marks.new values.new waiting.new) result }
+        ensures rules { (m : Grades G) → ByRules (opening G.kind (tree_of S.Shape shape.now) (table_of query.now) m) (retag mark.node mark.tag mark.grade) (of_retag result) self.old (lent marks.old values.old waiting.old) self.new (lent marks.new values.new waiting.new) }
+        ensures answer { RetagAnswers G.kind (tree_of S.Shape shape.now) (table_of query.now) self.old (lent marks.old values.old waiting.old) mark.node mark.tag mark.grade self.new (lent marks.new values.new waiting.new) result }
         ensures values { Within (self.old.terms * self.old.nodes) values.old values.new }
         ensures waiting { Within (self.old.terms * self.old.nodes) waiting.old waiting.new }
     {

@@ -27,8 +27,8 @@ impl Survey {
         waiting: &mut [u32],
         most: u32,
     ) -> Result<(u32, bool), SurveyRefusal>
-        ensures rules { (m : Grades G) → ByRules (opening kind (tree_of S.Shape shape.now) (table_of query.now) m) (running most) (of_run result) self.old (lent marks.now values.old waiting.old) self.new (lent marks.now values.new waiting.new) }
-        ensures answer { RunAnswers (count shape.now) (table_of query.now) most self.old (lent marks.now values.old waiting.old) self.new (lent marks.now values.new waiting.new) result }
+        ensures rules { (m : Grades G) → ByRules (opening G.kind (tree_of S.Shape shape.now) (table_of query.now) m) (running most) (of_run result) self.old (lent marks.now values.old waiting.old) self.new (lent marks.now values.new waiting.new) }
+        ensures answer { RunAnswers (S.count shape.now) (table_of query.now) most self.old (lent marks.now values.old waiting.old) self.new (lent marks.now values.new waiting.new) result }
     {
         if !self.fits(
             shape.node_count(),

@@ -32,10 +32,10 @@ fn work_off<G: Grade, S: Shape>(
     values: &mut [G],
     waiting: &mut [u32],
 )
-    requires node { entry.node < count shape.now }
-    requires inside { place (count shape.now) entry.term entry.node < length values.old }
-    ensures values { values.new ≡ slice_set values.old (place (count shape.now) entry.term entry.node) grade }
-    ensures lists { (l : List ℕ) → Threads waiting.old queue.old l → WokenInside (tree_of S.Shape shape.now) (table_of query.now) entry queue.old.size → Requeued (tree_of S.Shape shape.now) (table_of query.now) entry (grades_in kind (count shape.now) values.old entry.term entry.node) grade (rest l) waiting.new queue.new }
+    requires node { entry.node < S.count shape.now }
+    requires inside { place (S.count shape.now) entry.term entry.node < length values.old }
+    ensures values { values.new ≡ slice_set values.old (place (S.count shape.now) entry.term entry.node) grade }
+    ensures lists { (l : List ℕ) → Threads waiting.old queue.old l → WokenInside (tree_of S.Shape shape.now) (table_of query.now) entry queue.old.size → Requeued (tree_of S.Shape shape.now) (table_of query.now) entry (grades_in G.kind (S.count shape.now) values.old entry.term entry.node) grade (rest l) waiting.new queue.new }
     ensures size { queue.new.size ≡ queue.old.size }
     ensures len { length waiting.new ≡ length waiting.old }
     ensures above { (k : ℕ) → queue.old.size ≤ k → slice_index waiting.new k ≡ slice_index waiting.old k }
@@ -96,8 +96,8 @@ impl Survey {
         values: &mut [G],
         waiting: &mut [u32],
     ) -> Result<bool, SurveyRefusal>
-        ensures rules { (m : Grades G) → ByRules (opening kind (tree_of S.Shape shape.now) (table_of query.now) m) stepping (of_step result) self.old (lent marks.now values.old waiting.old) self.new (lent marks.now values.new waiting.new) }
-        ensures refusals { StepAnswers kind (tree_of S.Shape shape.now) (table_of query.now) self.old (lent marks.now values.old waiting.old) self.new (lent marks.now values.new waiting.new) result }
+        ensures rules { (m : Grades G) → ByRules (opening G.kind (tree_of S.Shape shape.now) (table_of query.now) m) stepping (of_step result) self.old (lent marks.now values.old waiting.old) self.new (lent marks.now values.new waiting.new) }
+        ensures refusals { StepAnswers G.kind (tree_of S.Shape shape.now) (table_of query.now) self.old (lent marks.now values.old waiting.old) self.new (lent marks.now values.new waiting.new) result }
         ensures bounded { AlteredAtMost 1 values.old values.new × (length waiting.new ≡ length waiting.old) }
     {
         if !self.fits(

@@ -30,7 +30,7 @@ pub(super) struct GradedEntry<G> {
 
 /// How many entries a block has; none past the blocks.
 fn block_size<S: Shape>(shape: &S, query: &Query, block: usize) -> usize
-    ensures { result ≡ blocks_terms (table_of query.now) block * count shape.now }
+    ensures { result ≡ blocks_terms (table_of query.now) block * S.count shape.now }
 {
     match query.span(block) {
         Some(span) => (span.end - span.first) * shape.node_count(),
@@ -40,7 +40,7 @@ fn block_size<S: Shape>(shape: &S, query: &Query, block: usize) -> usize
 
 /// The entry at the head of the queue; none where that is not of the block.
 fn head_entry<S: Shape>(shape: &S, query: &Query, work: &Work) -> Option<HeadEntry>
-    ensures { MatchOption result ((e : ℕ) → Heads (table_of query.now) (count shape.now) work.now e → ⊥) (λ h. Headed (table_of query.now) (count shape.now) work.now h) }
+    ensures { MatchOption result ((e : ℕ) → Heads (table_of query.now) (S.count shape.now) work.now e → ⊥) (λ h. Headed (table_of query.now) (S.count shape.now) work.now h) }
 {
     let head = work.queue.head()?;
     if head >= block_size(shape, query, work.block) {
@@ -65,7 +65,7 @@ pub(super) fn evaluated<G: Grade, S: Shape>(
     marks: &[G],
     values: &[G],
 ) -> Option<GradedEntry<G>>
-    ensures { MatchOption result ((e : ℕ) → Evaluates (tree_of S.Shape shape.now) (table_of query.now) marks.now values.now work.now e → ⊥) (λ p. Evaluated kind (tree_of S.Shape shape.now) (table_of query.now) marks.now values.now work.now p.entry p.grade) }
+    ensures { MatchOption result ((e : ℕ) → Evaluates (tree_of S.Shape shape.now) (table_of query.now) marks.now values.now work.now e → ⊥) (λ p. Evaluated G.kind (tree_of S.Shape shape.now) (table_of query.now) marks.now values.now work.now p.entry p.grade) }
 {
     let entry = head_entry(shape, query, work)?;
     let term = query.term(entry.term)?;
@@ -95,7 +95,7 @@ impl Survey {
 
     /// The current work, or that of the lowest stale block from its start; none where all blocks are settled.
     pub(super) fn next_work<S: Shape>(&self, shape: &S, query: &Query) -> Option<Work>
-        ensures { MatchOption result (NothingLeft self.now) (λ w. TakesUp (table_of query.now) (count shape.now) self.now w) }
+        ensures { MatchOption result (NothingLeft self.now) (λ w. TakesUp (table_of query.now) (S.count shape.now) self.now w) }
     {
         if let Some(work) = self.current {
             return Some(work);

@@ -49,7 +49,7 @@ fn reading_entry<S: Shape>(
     node: usize,
     reader: usize,
 ) -> Option<usize>
-    requires { node < count shape.now }
+    requires { node < S.count shape.now }
     ensures { result ≡ reading_entry_lem (tree_of S.Shape shape.now) (table_of query.now) first node reader }
 {
     let at = reader_node(shape, query.term(reader)?, node)?;
@@ -66,7 +66,7 @@ pub(super) fn wake<S: Shape>(
     queue: &mut Queue,
     waiting: &mut [u32],
 )
-    requires { node < count shape.now }
+    requires { node < S.count shape.now }
     ensures lists { (l : List ℕ) → Threads waiting.old queue.old l → All (λ e. e < queue.old.size) (woken (tree_of S.Shape shape.now) (table_of query.now) first node readers.now) → Threads waiting.new queue.new (l ++ added_by l (woken (tree_of S.Shape shape.now) (table_of query.now) first node readers.now)) }
     ensures size { queue.new.size ≡ queue.old.size }
     ensures len { length waiting.new ≡ length waiting.old }
