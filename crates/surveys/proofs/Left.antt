@@ -17,7 +17,7 @@ use Rattle.surveys.proofs.Readings.{Accepted, AgreeOwn, AgreeRead, BetterAt, rea
 use Rattle.surveys.proofs.Ready.{Ready}
 use Rattle.surveys.proofs.Room.{room, room_bounded, room_falls, operands_sum, operands_bounded, operands_mono, operands_fall}
 use Rattle.surveys.proofs.Sums.{sumBy_mono, sumBy_falls}
-use Rattle.surveys.proofs.Taken.{head_entry_lem, values_rise, other_block_stays}
+use Rattle.surveys.proofs.Taken.{head_entry, values_rise, other_block_stays}
 
 -- how far each value can still move
 abbrev pub rooms : {G : Type 0} → Opening G → Grades G → Grades ℕ
@@ -87,7 +87,7 @@ module _ {G : Type 0} (o : Opening G) (f : Accepted o) (s s' : State G) (st : St
 
   -- what a step adds to the queue is made up for by what is left to the readers
   added_few : length st.added + sum_by (read_rooms o s'.values) (entries o st.block).0 ≤ sum_by (read_rooms o s.values) (entries o st.block).0
-  added_few = elim (room_falls f.kind (direction o.query st.term) (s.values st.term st.node) (s'.values st.term st.node) (values_rise o f s s' st r st.term st.node (head_entry_lem o f s s' st r))) [
+  added_few = elim (room_falls f.kind (direction o.query st.term) (s.values st.term st.node) (s'.values st.term st.node) (values_rise o f s s' st r st.term st.node (head_entry o f s s' st r))) [
     | inl e ↦ rw (st.unchanged e.0) (omega (arith, sumBy_mono (read_rooms o s'.values) (read_rooms o s.values) (entries o st.block).0 falls))
     | inr l ↦
         let lists = st.changed (λ e. omega (arith, ap (room o.kind (direction o.query st.term)) e)) in

@@ -12,5 +12,5 @@ pub returns : goal.returns
 returns g c =
     let block = c.in_ok-block.block in
     subst (λ q. TakesUp (table_of c.args.query.now) (g.S.Shape.count c.args.shape.now) c.args.self.now (record { block = block; queue = q }))
-    (sym (c.rising_queue.ensures.value ∙ ap rising_queue c.block_size.ensures))
+    (sym (c.rising-queue.ensures.value ∙ ap rising_queue c.block_size.ensures))
     (begins block c.in_default.is c.in_ok-block.ensures)
