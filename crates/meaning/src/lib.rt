@@ -1,4 +1,6 @@
 //! What a query means.
+#![tactic(auto)]
+
 pub mod examples;
 pub mod grade_of;
 pub mod theorems;

@@ -1,16 +1,15 @@
 -- The rules for one term, by its row and by a list of the block of each term.
-use Rattle.std.proofs.Common.{◌≡◌, ℕ, ◌<◌, ◌≤◌, true, false, List, map, length, get_or, is_some, Some, None, Option, unwrap_or, sym, refl, ap, ◌∙◌, subst, arith}
+use Rattle.std.proofs.Common.{◌≡◌, ℕ, ◌<◌, true, false, List, length, get_or, is_some, Some, None, unwrap_or, sym, ap, ◌∙◌, subst, arith}
 use Rattle.std.proofs.lemmas.List.{length-map, get_or-map, get_or_default}
 use Rattle.std.proofs.lemmas.Bool.{false≢true}
 use Rattle.queries.specs.declared.refusal.QueryRefusal.{QueryRefusal}
 use Rattle.queries.specs.declared.refusal.QueryRefusal.TheVariants.{Sizes, BadBlock, BlockSum, BadTerm, LaterBlock, OwnTurn, NoMemory}
-use Rattle.queries.specs.declared.rows.BlockRow.{BlockRow}
 use Rattle.queries.specs.declared.rows.TermRow.{TermRow}
 use Rattle.queries.specs.declared.term.Term.{Term}
-use Rattle.queries.specs.declared.term.Term.TheVariants.{Turn, Lowest}
+use Rattle.queries.specs.declared.term.Term.TheVariants.{Lowest}
 use Rattle.queries.specs.Admission.{Stands, Fits, Framed, FineBefore, RefusedFor}
-use Rattle.queries.specs.Checks.{Assigned, standing, reading_up_to, TurnsBefore, Faulty, FirstFaulty}
-use Rattle.queries.specs.Rows.{Rows, rows, term_in, told}
+use Rattle.queries.specs.Checks.{Assigned, standing, reading_up_to, TurnsBefore, FirstFaulty}
+use Rattle.queries.specs.Rows.{Rows, term_in, told}
 use Rattle.queries.specs.Table.{Reads, total, term_at, block_of, NoLaterBlock, TurnEarlier}
 use Rattle.queries.proofs.Operands.{turn_read}
 use Rattle.queries.proofs.Tested.{StandsAlone, ReadsUpTo, standing_decided, reading_decided}

@@ -3,9 +3,8 @@ use Rattle.std.specs.Prelude.{◌≡◌, ℕ, ◌<◌, ◌≤◌, true, length, 
 use Rattle.queries.specs.declared.refusal.QueryRefusal.{QueryRefusal}
 use Rattle.queries.specs.declared.refusal.QueryRefusal.TheVariants.{Sizes, BadBlock, BlockSum, BadTerm, LaterBlock, OwnTurn, NoMemory}
 use Rattle.queries.specs.declared.rows.BlockRow.{BlockRow}
-use Rattle.queries.specs.declared.rows.TermRow.{TermRow}
 use Rattle.queries.specs.Rows.{Rows, no_row, term_in, told}
-use Rattle.queries.specs.Table.{Table, total, TagStands, OperandsStand, NoLaterBlock, TurnEarlier}
+use Rattle.queries.specs.Table.{total, TagStands, OperandsStand, NoLaterBlock, TurnEarlier}
 
 -- at most 16 tags, and 1 to 64 terms
 pub record SizesFit (r : Rows) : Type 0 where

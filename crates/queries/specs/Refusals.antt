@@ -1,5 +1,5 @@
 -- The published numbers of the refusals of queries, and the term that a refusal carries.
-use Rattle.std.specs.Prelude.{ℕ, Some, None, Option}
+use Rattle.std.specs.Prelude.{ℕ}
 use Rattle.queries.specs.declared.refusal.QueryRefusal.{QueryRefusal}
 use Rattle.queries.specs.declared.refusal.QueryRefusal.TheVariants.{Sizes, BadBlock, BlockSum, BadTerm, LaterBlock, OwnTurn, NoMemory}
 

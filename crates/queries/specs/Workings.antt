@@ -1,7 +1,6 @@
 -- What a query keeps worked out: each as a function of its table.
 use Rattle.std.specs.Prelude.{ℕ, zero, suc, ◌+◌, Bool, false, cond, ◌&&◌, ◌||◌, List, [], ◌∷◌, ◌++◌, map, take, Some, None, filter, Option, ◌==◌, slice_index, slice_index_or}
 use Rattle.std.specs.List.{range_with_len}
-use Rattle.queries.specs.declared.block.Block.{Block}
 use Rattle.queries.specs.declared.block.Span.{Span}
 use Rattle.queries.specs.declared.term.Operands.{Operands}
 use Rattle.queries.specs.declared.term.Term.{Term}

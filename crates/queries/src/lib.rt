@@ -1,4 +1,6 @@
 //! Queries: blocks of mutual definitions, admitted or refused.
+#![tactic(auto)]
+
 mod admission;
 pub mod block;
 pub mod laws;

@@ -1,33 +1,32 @@
 -- From one state to the next: what the code leaves holds the state that a step of the rules leads to.
-use Rattle.std.proofs.Common.{◌≡◌, ℕ, zero, suc, ◌+◌, ◌-◌, ◌*◌, ◌<◌, ◌≤◌, Bool, true, false, cond, ◌&&◌, ◌||◌, T, eqb, ltb, ◌⊎◌, List, [], ◌∷◌, ◌++◌, map, length, get_or, set, Some, None, Option, sym, refl, ap, ◌∙◌, subst, ap₂, inl, inr, arith}
+use Rattle.std.proofs.Common.{◌≡◌, ℕ, zero, suc, ◌-◌, ◌*◌, ◌<◌, ◌≤◌, Bool, true, false, ◌&&◌, ◌||◌, T, eqb, ltb, List, [], ◌∷◌, ◌++◌, map, length, get_or, set, Some, None, Option, sym, refl, ap, ◌∙◌, subst, ap₂, inl, inr, arith}
 use Rattle.std.specs.List.{range_with_len, AllByRecursion as All}
 use Rattle.std.proofs.lemmas.List.{map-append, length-set, get_or-set_same, get_or-set_other}
 use Rattle.std.proofs.lemmas.Bool.{cases_eq, cases_lt, eq-eqb, ne_eqb, and_from, and_left, and_right, lt-ltb, le-ltb, cond-true, cond-false}
 use Rattle.grades.specs.Kind.{Kind, Says}
 use Rattle.shapes.specs.Tree.{Tree, Laws as TreeLaws}
 use Rattle.queries.specs.declared.block.Block.{Block}
-use Rattle.queries.specs.Queries.{ListsReaders}
-use Rattle.queries.specs.Table.{Table, Admitted, blocks_terms, term_at, block_of, total, no_block}
-use Rattle.meaning.specs.Solutions.{Grades, grade_of_lem}
+use Rattle.queries.specs.Table.{Table, Admitted, total, no_block}
+use Rattle.meaning.specs.Solutions.{Grades}
 use Rattle.meaning.specs.Tables.{place, grades_in}
 use Rattle.queues.specs.declared.queue.Queue.{Queue}
 use Rattle.queues.specs.Calls.{front, head_of}
-use Rattle.queues.specs.Threads.{Threads, ends_of, run, first, rest}
+use Rattle.queues.specs.Threads.{Threads, ends_of, first, rest}
 use Rattle.queues.proofs.Uses.{threads_done, first_some}
 use Rattle.surveys.specs.declared.survey.Survey.{Survey}
 use Rattle.surveys.specs.declared.survey.Work.{Work}
 use Rattle.surveys.specs.declared.survey.upcoming.HeadEntry.{HeadEntry}
 use Rattle.surveys.specs.Places.{Place, Lists}
-use Rattle.surveys.specs.Rules.{Opening, State, EntryOf, EveryBlockSettled, WorksOn, Queued, Steps, given}
+use Rattle.surveys.specs.Rules.{Opening, State, EntryOf, WorksOn, Queued, Steps, given}
 use Rattle.surveys.specs.Calls.{Does, with_mark}
 use Rattle.surveys.specs.Calls.Answer.{stepped}
 use Rattle.surveys.specs.Calls.Call.{step}
 use Rattle.surveys.specs.Calls.Does.{steps}
-use Rattle.surveys.specs.Standing.{Lent, lent, Counted, Roomy, Stands, Works, Idle, Blank, place_in}
+use Rattle.surveys.specs.Standing.{Lent, lent, Roomy, Stands, Blank, place_in}
 use Rattle.surveys.specs.StepParts.{head_entry_lem, Requeued, WokenInside}
 use Rattle.surveys.specs.Stepping.{flag, AllFlagged, first_of, term_of, node_of, Heads, gives, Stored, closed, working_on}
-use Rattle.surveys.specs.Waking.{woken, added_by}
-use Rattle.surveys.proofs.Engine.{TakenUp, taken_up, place_apart, place_inside, given_is, room_values}
+use Rattle.surveys.specs.Waking.{woken}
+use Rattle.surveys.proofs.Engine.{TakenUp, place_apart, place_inside, given_is, room_values}
 use Rattle.surveys.proofs.Numbering.{entry_of_number}
 use Rattle.surveys.proofs.Queueing.{readers_inside, queued_listed}
 

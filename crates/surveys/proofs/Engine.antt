@@ -1,30 +1,21 @@
 -- A step of the code is a step of the rules.
-use Rattle.std.proofs.Common.{◌≡◌, ℕ, zero, suc, ◌+◌, ◌-◌, ◌*◌, ◌/◌, ◌%◌, ◌<◌, ◌≤◌, Bool, true, false, cond, ◌&&◌, ◌||◌, T, eqb, ◌⊎◌, List, [], ◌∷◌, ◌++◌, map, length, get_or, set, Some, None, Option, sym, refl, ap, ◌∙◌, subst, ap₂, subst₂, inl, inr, mul_comm, add-mul, arith}
+use Rattle.std.proofs.Common.{◌≡◌, ℕ, ◌+◌, ◌*◌, ◌/◌, ◌%◌, ◌<◌, ◌≤◌, false, T, List, [], map, length, Some, None, sym, refl, ap, ◌∙◌, subst, ap₂, add-mul, arith}
 use Rattle.std.specs.List.{range_with_len}
 use Rattle.std.proofs.lemmas.Nat.{div-mul-add, mod-mul-add, mul-le}
 use Rattle.std.proofs.lemmas.List.FromFn.{length-range_with_len}
-use Rattle.std.proofs.lemmas.List.{length-set, get_or-set_same, get_or-set_other, get_or_past}
-use Rattle.std.proofs.lemmas.Bool.{cases_eq, eq-eqb, ne_eqb, and_from, and_left, and_right}
-use Rattle.grades.specs.Kind.{Kind, Says}
-use Rattle.shapes.specs.Tree.{Tree, Laws as TreeLaws}
-use Rattle.queries.specs.declared.term.Term.{Term}
-use Rattle.queries.specs.declared.term.Term.TheVariants.{Mark}
-use Rattle.queries.specs.Table.{Table, Admitted, blocks_terms, term_at, block_of}
-use Rattle.meaning.specs.Readings.{Reading}
-use Rattle.meaning.specs.Solutions.{Grades, grade_of_lem}
+use Rattle.shapes.specs.Tree.{Laws as TreeLaws}
+use Rattle.queries.specs.Table.{Admitted, blocks_terms, term_at}
+use Rattle.meaning.specs.Solutions.{grade_of_lem}
 use Rattle.meaning.specs.Tables.{place, grades_in, Readable}
 use Rattle.meaning.proofs.Readings.{reading_reads, reading_node, grade_same}
-use Rattle.queues.specs.declared.queue.Queue.{Queue}
-use Rattle.queues.specs.Calls.{head_of}
-use Rattle.queues.specs.Threads.{Threads, first, rest}
+use Rattle.queues.specs.Threads.{Threads}
 use Rattle.queues.proofs.Uses.{rising_threads}
 use Rattle.surveys.specs.declared.survey.Survey.{Survey}
 use Rattle.surveys.specs.declared.survey.Work.{Work}
-use Rattle.surveys.specs.Places.{Place}
 use Rattle.surveys.specs.Rules.{Opening, State, EntryOf, WorksOn, given}
 use Rattle.surveys.specs.Rules.WorksOn.{goes_on, begins}
 use Rattle.surveys.specs.Standing.{Lent, Stands, Works, Idle, Working, Blank, place_in}
-use Rattle.surveys.specs.Stepping.{flag, FirstStale, TakesUp, begun, first_of, term_of, node_of}
+use Rattle.surveys.specs.Stepping.{FirstStale, TakesUp, begun}
 use Rattle.surveys.specs.Stepping.TakesUp.{goes_on as still_on, begins as anew}
 use Rattle.surveys.proofs.Numbering.{entries_listed}
 use Rattle.surveys.proofs.Spanning.{few_entries, span_inside}

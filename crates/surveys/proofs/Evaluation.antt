@@ -1,5 +1,5 @@
 -- The entry at the head of a queue, and the grade of its term.
-use Rattle.std.proofs.Common.{◌≡◌, ℕ, ◌*◌, ◌<◌, ◌≤◌, Bool, false, List, length, get_or, Some, None, Option, unwrap_or, sym, refl, ap, ◌∙◌, subst, subst₂, inl, inr, arith, Bor, MatchOption}
+use Rattle.std.proofs.Common.{◌≡◌, ℕ, ◌*◌, ◌<◌, ◌≤◌, Bool, false, List, length, get_or, Some, None, Option, unwrap_or, sym, ap, ◌∙◌, subst, subst₂, inl, inr, arith, Bor, MatchOption}
 use Rattle.std.specs.List.{slice_get}
 use Rattle.std.specs.Option.{option_map}
 use Rattle.std.specs.Slice.{IsGetResult}
@@ -18,7 +18,7 @@ use Rattle.meaning.specs.Tables.{grades_in, Readable}
 use Rattle.queues.specs.Calls.{head_of}
 use Rattle.surveys.specs.declared.survey.Work.{Work}
 use Rattle.surveys.specs.declared.survey.upcoming.HeadEntry.{HeadEntry}
-use Rattle.surveys.specs.StepParts.{head_entry_lem, Headed, Evaluated}
+use Rattle.surveys.specs.StepParts.{Headed, Evaluated}
 use Rattle.surveys.specs.Stepping.{first_of, term_of, node_of, Heads, Evaluates}
 use Rattle.surveys.proofs.Spanning.{block_has, row_of, spans_first, term_stands}
 

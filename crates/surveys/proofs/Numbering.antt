@@ -1,11 +1,9 @@
 -- The entries of a block by their numbers.
-use Rattle.std.proofs.Common.{◌≡◌, ℕ, zero, suc, ◌+◌, ◌-◌, ◌*◌, ◌/◌, ◌%◌, ◌<◌, ◌≤◌, ◌⊎◌, List, [], ◌∷◌, map, length, sym, refl, ap, ◌∙◌, subst, ap₂, inl, inr, mul_comm, add-mul, arith}
+use Rattle.std.proofs.Common.{◌≡◌, ℕ, zero, suc, ◌+◌, ◌-◌, ◌*◌, ◌/◌, ◌%◌, ◌<◌, ◌⊎◌, List, [], ◌∷◌, map, length, sym, refl, ap, ◌∙◌, subst, ap₂, inl, inr, add-mul, arith}
 use Rattle.std.specs.List.{range_with_len, AllByRecursion as All}
 use Rattle.std.proofs.lemmas.Nat.{div-add-mod', div-mul-add, mod-mul-add, div_below, mod_below, mul-le}
-use Rattle.std.proofs.ByRecursion.{All-weaker}
 use Rattle.std.proofs.lemmas.Bool.{cases_order}
-use Rattle.shapes.specs.Tree.{Tree}
-use Rattle.queries.specs.Table.{Table, Admitted, blocks_terms}
+use Rattle.queries.specs.Table.{Admitted, blocks_terms}
 use Rattle.queries.proofs.Deals.{Dealt}
 use Rattle.queues.specs.Threads.{In as Waits}
 use Rattle.queues.proofs.Uses.{counting_in}
@@ -16,7 +14,7 @@ use Rattle.surveys.specs.Rules.{Opening, EntryOf}
 use Rattle.surveys.specs.Standing.{place_in}
 use Rattle.surveys.specs.Stepping.{first_of}
 use Rattle.surveys.proofs.Membership.{in_none, in_cons}
-use Rattle.surveys.proofs.Spanning.{no_terms, span_inside, in_span, span_has}
+use Rattle.surveys.proofs.Spanning.{span_inside, in_span, span_has}
 
 -- numbers in rising order
 abbrev pub Rises : List ℕ → Type 0

@@ -1,5 +1,5 @@
 -- The entries that a change queues, as the rules tell them.
-use Rattle.std.proofs.Common.{◌≡◌, ℕ, zero, suc, ◌+◌, ◌-◌, ◌*◌, ◌/◌, ◌%◌, ◌<◌, ◌≤◌, true, false, eqb, ◌⊎◌, List, [], ◌∷◌, ◌++◌, map, length, get_or, Some, None, Option, sym, refl, ap, ◌∙◌, subst, ap₂, inl, inr, add-mul, arith}
+use Rattle.std.proofs.Common.{◌≡◌, ℕ, zero, suc, ◌+◌, ◌-◌, ◌*◌, ◌<◌, ◌≤◌, true, false, eqb, ◌⊎◌, List, [], ◌∷◌, ◌++◌, map, length, get_or, Some, None, Option, sym, refl, ap, ◌∙◌, subst, inl, inr, add-mul, arith}
 use Rattle.std.specs.List.{ContainsAt as Has, AllByRecursion as All}
 use Rattle.std.proofs.lemmas.Nat.{mul-le}
 use Rattle.std.proofs.ByRecursion.{All-from_get_or}
@@ -8,7 +8,6 @@ use Rattle.shapes.specs.declared.axis.Axis.{Axis}
 use Rattle.shapes.specs.declared.axis.Axis.TheVariants.{First, Next, Owner, Previous}
 use Rattle.shapes.specs.Tree.{Tree, Laws as TreeLaws, along, back}
 use Rattle.queries.specs.declared.term.Term.{Term}
-use Rattle.queries.specs.declared.term.Term.TheVariants.{Mark, Turn, Meet, Join, SomeNeighbour, EveryNeighbour, Lowest, Highest}
 use Rattle.queries.specs.Queries.{Reader, ListsReaders}
 use Rattle.queries.specs.Table.{Table, Admitted, Reads, by_turn, by_meet_left, by_meet_right, by_join_left, by_join_right, by_some, by_every, term_at, block_of, blocks_terms}
 use Rattle.queries.proofs.Deals.{Dealt}
@@ -21,7 +20,7 @@ use Rattle.surveys.specs.Rules.{Opening, EntryOf, Queued}
 use Rattle.surveys.specs.Standing.{place_in}
 use Rattle.surveys.specs.Stepping.{first_of}
 use Rattle.surveys.specs.Waking.{reader_node_lem, reading_entry_lem, numbered, in_front, woken, waits, added_by}
-use Rattle.surveys.proofs.Numbering.{Rises, place_waits, waits_place, place_waits_as, places_rise, entry_of_number, number_of_entry}
+use Rattle.surveys.proofs.Numbering.{Rises, place_waits, waits_place, place_waits_as, places_rise, number_of_entry}
 use Rattle.surveys.proofs.Spanning.{span_has}
 use Rattle.surveys.proofs.Wakes.{added_waits, added_new, reader_inside}
 

@@ -1,14 +1,12 @@
 -- Readings: the part of the value table that is a term's row.
-use Rattle.std.proofs.Common.{◌≡◌, ℕ, suc, ◌+◌, ◌-◌, ◌*◌, ◌<◌, ◌≤◌, Bool, true, false, T, List, length, get_or, take, drop, sym, refl, ap, ◌∙◌, subst, mul-le-mul_right, add-mul, one-mul, arith}
+use Rattle.std.proofs.Common.{◌≡◌, ℕ, ◌+◌, ◌*◌, ◌<◌, ◌≤◌, false, T, List, length, get_or, take, drop, sym, ap, ◌∙◌, subst, mul-le-mul_right, add-mul, one-mul, arith}
 use Rattle.std.proofs.lemmas.List.{get_or-take, get_or-drop}
-use Rattle.queries.specs.declared.query.Query.{Query}
-use Rattle.queries.specs.Queries.{table_of}
-use Rattle.queries.specs.Table.{Table, Admitted, block_of}
+use Rattle.queries.specs.Table.{Admitted, block_of}
 use Rattle.meaning.proofs.Admitted.{block_stands}
 use Rattle.surveys.specs.declared.refusal.SurveyRefusal.{SurveyRefusal}
 use Rattle.surveys.specs.declared.refusal.SurveyRefusal.TheVariants.{TableOrCounts, NotInSurvey, NotSettled, AllSettled, ForeignEntry}
 use Rattle.surveys.specs.declared.survey.Survey.{Survey}
-use Rattle.surveys.specs.Calls.{Call, Answer, Does}
+use Rattle.surveys.specs.Calls.{Does}
 use Rattle.surveys.specs.Calls.Call.{read}
 use Rattle.surveys.specs.Calls.Answer.{row, refused}
 use Rattle.surveys.specs.Reading.{Readable, ReadRefused}

@@ -1,5 +1,5 @@
 -- Steps in a row, each held to the rules, are a run of the rules.
-use Rattle.std.proofs.Common.{◌≡◌, ℕ, suc, ◌+◌, ◌<◌, ◌≤◌, Bool, true, false, T, List, [], ◌∷◌, ◌++◌, length, get_or, Ok, Err, Result, sym, refl, ap, ◌∙◌, subst, add-one, arith}
+use Rattle.std.proofs.Common.{◌≡◌, ℕ, suc, ◌+◌, ◌<◌, ◌≤◌, Bool, true, false, T, List, [], ◌∷◌, ◌++◌, length, get_or, sym, refl, ap, ◌∙◌, subst, add-one, arith}
 use Rattle.std.proofs.lemmas.List.{length_push, get_or_append_left, get_or_push}
 use Rattle.grades.specs.Kind.{Kind, Says}
 use Rattle.shapes.specs.Tree.{Tree}
@@ -8,14 +8,14 @@ use Rattle.meaning.specs.Solutions.{Grades}
 use Rattle.surveys.specs.declared.refusal.SurveyRefusal.{SurveyRefusal}
 use Rattle.surveys.specs.declared.survey.Survey.{Survey}
 use Rattle.surveys.specs.Rules.{Opening, State, Steps, Makes, EveryBlockSettled}
-use Rattle.surveys.specs.Calls.{Call, Answer, Does}
+use Rattle.surveys.specs.Calls.{Does}
 use Rattle.surveys.specs.Calls.Call.{step, run}
 use Rattle.surveys.specs.Calls.Answer.{stepped, ran, refused}
-use Rattle.surveys.specs.Held.{ByRules, of_step, AlteredAtMost}
+use Rattle.surveys.specs.Held.{ByRules, AlteredAtMost}
 use Rattle.surveys.specs.Promise.{opening}
 use Rattle.surveys.specs.Running.{RunsWithin}
 use Rattle.surveys.specs.Standing.{Lent, Stands}
-use Rattle.surveys.specs.Stepping.{AllFlagged, flag}
+use Rattle.surveys.specs.Stepping.{AllFlagged}
 
 -- a table that was altered in n places, and then in one more
 altered_more : {G : Type 0} (n : ℕ) (a b c : List G) → AlteredAtMost n a b → AlteredAtMost 1 b c → AlteredAtMost (n + 1) a c

@@ -1,5 +1,5 @@
 -- The answers of a step: each as the rules say, with its cause.
-use Rattle.std.proofs.Common.{◌≡◌, ℕ, ◌*◌, ◌<◌, ◌≤◌, Bool, true, false, T, List, [], ◌∷◌, length, get_or, set, Some, None, Ok, Err, Option, sym, refl, ap, ◌∙◌, subst, ap₂, subst₂, inl, inr, arith}
+use Rattle.std.proofs.Common.{◌≡◌, ℕ, ◌*◌, ◌<◌, Bool, T, List, [], ◌∷◌, length, get_or, set, Some, sym, refl, ap, ◌∙◌, subst, ap₂, subst₂, inl, inr, arith}
 use Rattle.std.proofs.lemmas.List.{length-set, get_or-set_other}
 use Rattle.std.proofs.lemmas.Bool.{cases_order}
 use Rattle.grades.specs.Kind.{Kind, Says}
@@ -8,7 +8,6 @@ use Rattle.queries.specs.Table.{Table, Admitted, blocks_terms}
 use Rattle.meaning.specs.Solutions.{Grades}
 use Rattle.meaning.specs.Tables.{place}
 use Rattle.queues.specs.declared.queue.Queue.{Queue}
-use Rattle.queues.specs.Calls.{head_of}
 use Rattle.queues.specs.Threads.{first, In as Waits}
 use Rattle.queues.proofs.Uses.{threads_below}
 use Rattle.surveys.specs.declared.refusal.SurveyRefusal.TheVariants.{TableOrCounts, AllSettled, ForeignEntry}
@@ -20,7 +19,7 @@ use Rattle.surveys.specs.Calls.Call.{step}
 use Rattle.surveys.specs.Calls.Does.{nothing_left}
 use Rattle.surveys.specs.Held.{ByRules, AlteredAtMost}
 use Rattle.surveys.specs.Promise.{opening}
-use Rattle.surveys.specs.Rules.{Opening, State, EveryBlockSettled}
+use Rattle.surveys.specs.Rules.{Opening, State}
 use Rattle.surveys.specs.Standing.{Lent, lent, Fits, Stands}
 use Rattle.surveys.specs.StepParts.{Evaluated}
 use Rattle.surveys.specs.Stepping.{FirstStale, NothingLeft, TakesUp, begun, term_of, node_of, Evaluates, gives, WorksOff}

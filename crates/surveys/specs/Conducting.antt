@@ -1,5 +1,5 @@
 -- A list of calls made on one survey, from its opening on.
-use Rattle.std.specs.Prelude.{◌≡◌, ℕ, List, [], ◌∷◌, map, length, vec_items, slice_index_or}
+use Rattle.std.specs.Prelude.{◌≡◌, List, [], ◌∷◌, length, vec_items, slice_index_or}
 use Rattle.grades.specs.Kind.{Kind}
 use Rattle.shapes.specs.Tree.{Tree}
 use Rattle.queries.specs.Table.{Table}

@@ -1,5 +1,5 @@
 -- What the calls on a survey are held to, in the words of the rules.
-use Rattle.std.specs.Prelude.{◌≡◌, ℕ, ◌*◌, ◌<◌, Bool, true, List, length, Some, None, Ok, Err, Result, ◌≢◌, slice_index, slice_index_or}
+use Rattle.std.specs.Prelude.{◌≡◌, ℕ, ◌<◌, Bool, List, length, Ok, Err, Result, ◌≢◌, slice_index, slice_index_or}
 use Rattle.surveys.specs.declared.refusal.SurveyRefusal.{SurveyRefusal}
 use Rattle.surveys.specs.declared.survey.Survey.{Survey}
 use Rattle.surveys.specs.Rules.{Opening, State}

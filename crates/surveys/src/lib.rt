@@ -1,4 +1,6 @@
 //! Surveys: the rows of a query, kept up to date while marks change.
+#![tactic(auto)]
+
 pub mod call;
 pub mod conduct;
 pub mod promise;

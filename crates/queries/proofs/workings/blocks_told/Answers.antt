@@ -1,4 +1,3 @@
-use Rattle.std.proofs.Common.{vec_items}
 use Rattle.queries.specs.Rows.{block_in, no_row}
 use Rattle.queries.proofs.Listed.{mapped_push, mapped_all}
 use Rattle.queries.proofs.workings.blocks_told.Goals as goal

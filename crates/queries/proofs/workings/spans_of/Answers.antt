@@ -1,4 +1,4 @@
-use Rattle.std.proofs.Common.{◌≡◌, ℕ, ◌+◌, [], length, get_or, vec_items, sym, refl, ap, arith}
+use Rattle.std.proofs.Common.{ℕ, ◌+◌, [], length, get_or, vec_items, refl, ap, arith}
 use Rattle.queries.specs.declared.block.Span.{Span}
 use Rattle.queries.specs.Table.{table, no_block}
 use Rattle.queries.specs.Workings.{span_of}

@@ -1,4 +1,4 @@
-use Rattle.std.proofs.Common.{◌≡◌, length, vec_items, sym, refl, ◌∙◌, subst, arith}
+use Rattle.std.proofs.Common.{length, vec_items, sym, refl, ◌∙◌, subst, arith}
 use Rattle.queries.specs.Queries.{table_of, ListsReaders}
 use Rattle.queries.specs.Workings.{readers_before}
 use Rattle.queries.proofs.Listed.{row_found, row_missing}

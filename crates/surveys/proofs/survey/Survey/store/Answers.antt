@@ -1,4 +1,4 @@
-use Rattle.std.proofs.Common.{◌≡◌, ◌≤◌, length, None, ap, ◌∙◌, rules}
+use Rattle.std.proofs.Common.{None, ap, ◌∙◌, rules}
 use Rattle.queues.specs.Calls.{head_of}
 use Rattle.surveys.specs.declared.survey.Survey.{Survey}
 use Rattle.surveys.proofs.Requeues.{stored_none, found_says, closed_past}

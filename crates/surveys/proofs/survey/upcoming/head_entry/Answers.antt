@@ -1,8 +1,7 @@
-use Rattle.std.proofs.Common.{◌+◌, ◌*◌, ◌/◌, ◌%◌, ◌<◌, sym, refl, ap, ◌∙◌, ap₂, arith}
+use Rattle.std.proofs.Common.{◌+◌, ◌*◌, ◌/◌, ◌%◌, ◌<◌, sym, refl, ap, ap₂, arith}
 use Rattle.queries.specs.Queries.{table_of}
 use Rattle.queries.specs.Table.{blocks_terms}
 use Rattle.queries.proofs.Questions.{rules_kept}
-use Rattle.surveys.specs.Stepping.{term_of}
 use Rattle.surveys.proofs.Evaluation.{none_cases, headed, headless}
 use Rattle.surveys.proofs.Spanning.{spans_first, term_stands}
 use Rattle.surveys.proofs.survey.upcoming.head_entry.Goals as goal
