@@ -3,14 +3,13 @@ use Rattle.std.proofs.lemmas.Fmt.{decimal_nonempty, digits_decimal}
 use Rattle.std.proofs.lemmas.Bool.{eqb-true, eqb-false}
 use Rattle.files.proofs.Blanks.{own, plain, no_zero_before, cases_weaker}
 use Rattle.files.proofs.field.plain_number.Goals as goal
-use Rattle.files.proofs.field.plain_number.Goals.{else-digits-gt1-via-then-digits-gt1+else-digits-eq48, else-digits-gt1-via-else-digits-gt1}
 
 pub returns-then-is_empty : goal.returns-then-is_empty
 returns-then-is_empty c n small e =
     omega (arith, eqb-true (length c.args.digits.now) 0 (sym c.if-is_empty.ensures), ap length e, decimal_nonempty n small)
 
 pub returns-then-digits-eq48 : goal.returns-then-digits-eq48
-returns-then-digits-eq48 c n small e = no_zero_before c.args.digits.now n small c.if-digits-gt1.true c.if-digits-eq48.true e
+returns-then-digits-eq48 c n small e = no_zero_before c.args.digits.now n small (omega arith) (omega arith) e
 
 pub returns : goal.returns
 returns c =
@@ -22,5 +21,4 @@ returns c =
     some = omega (arith, eqb-false (length c.args.digits.now) 0 (sym c.if-is_empty.ensures))
 
     lead : (1 < length c.args.digits.now) × (get_or c.args.digits.now 0 0 ≡ 48) → ⊥
-    lead (many, zero-first) =
-        elim c.else-digits-gt1.branch [ else-digits-gt1-via-then-digits-gt1+else-digits-eq48 w ↦ w.if-digits-eq48.false zero-first | else-digits-gt1-via-else-digits-gt1 w ↦ omega (arith, w.if-digits-gt1.false) ]
+    lead (many, zero-first) = grind arith
