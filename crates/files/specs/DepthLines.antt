@@ -1,6 +1,6 @@
 -- A depth list as text: for each node a line with the letter N and the depth in five columns.
 use Rattle.std.specs.Prelude.{◌≡◌, ℕ, ◌+◌, ◌^◌, ◌<◌, min, List, [], ◌∷◌, ◌++◌, map, length, ◌≢◌}
-use Rattle.std.specs.List.{flat_map, AllByRecursion as All}
+use Rattle.std.specs.List.{flat_map, AllByRecursion}
 use Rattle.files.specs.declared.depths.TextFault.{TextFault}
 use Rattle.files.specs.declared.depths.TextFault.TheVariants.{Malformed, NoMemory}
 use Rattle.files.specs.Fields.{field}
@@ -19,7 +19,7 @@ capped n = min n 65535
 -- the text is the lines of some numbers, and the depths are these
 pub record ReadsDepths (text depths : List ℕ) : Type 0 where
   pub numbers : List ℕ
-  pub fit : All (λ n. n < 10 ^ 5) numbers
+  pub fit : AllByRecursion (λ n. n < 10 ^ 5) numbers
   pub written : text ≡ flat_map depth_line numbers
   pub capped_there : depths ≡ map capped numbers
 
@@ -28,7 +28,7 @@ pub record BadLine (text : List ℕ) (line : ℕ) : Type 0 where
   pub numbers : List ℕ
   pub rest : List ℕ
   pub before : length numbers + 1 ≡ line
-  pub fit : All (λ n. n < 10 ^ 5) numbers
+  pub fit : AllByRecursion (λ n. n < 10 ^ 5) numbers
   pub written : text ≡ flat_map depth_line numbers ++ rest
   pub something : 0 < length rest
   pub bad : (n : ℕ) (more : List ℕ) → n < 10 ^ 5 → rest ≢ depth_line n ++ more

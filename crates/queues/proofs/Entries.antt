@@ -1,6 +1,6 @@
 -- Lists of entries: membership, no entry twice, and a rising run.
 use Rattle.std.proofs.Common.{◌≡◌, ℕ, zero, suc, ◌+◌, ◌-◌, ◌<◌, ◌≤◌, ◌⊎◌, List, [], ◌∷◌, ◌++◌, refl, ap, inl, inr, ⊎_elim, arith}
-use Rattle.std.specs.List.{range_with_len, AllByRecursion as All}
+use Rattle.std.specs.List.{range_with_len, AllByRecursion}
 use Rattle.std.proofs.lemmas.Bool.{cases_eq}
 use Rattle.queues.specs.Threads.{In, Distinct, newest}
 
@@ -20,7 +20,7 @@ append_in e (x ∷ l) m (inl (inl s)) = inl s
 append_in e (x ∷ l) m (inl (inr i)) = inr (append_in e l m (inl i))
 append_in e (x ∷ l) m (inr i) = inr (append_in e l m (inr i))
 
-pub all_in : (P : ℕ → Type 0) (l : List ℕ) (e : ℕ) → All P l → In e l → P e
+pub all_in : (P : ℕ → Type 0) (l : List ℕ) (e : ℕ) → AllByRecursion P l → In e l → P e
 all_in P [] e a i = absurd i
 all_in P (x ∷ l) e a (inl s) = rw s at a.0
 all_in P (x ∷ l) e a (inr i) = all_in P l e a.1 i
@@ -48,7 +48,7 @@ pub counting_in : (k a n : ℕ) → a ≤ k → k < a + n → In k (range_with_l
 counting_in k a zero le lt = absurd (omega arith)
 counting_in k a (suc n) le lt = ⊎_elim inl (λ d. inr (counting_in k (a + 1) n (omega arith) (omega arith))) (cases_eq a k)
 
-pub inside_counting : (a n m : ℕ) → a + n ≤ m → All (λ k. k < m) (range_with_len a n)
+pub inside_counting : (a n m : ℕ) → a + n ≤ m → AllByRecursion (λ k. k < m) (range_with_len a n)
 inside_counting a zero m h = tt
 inside_counting a (suc n) m h = (omega arith, inside_counting (a + 1) n m (omega arith))
 

@@ -1,6 +1,6 @@
 -- What a caller's proof wants of the list of those that wait.
 use Rattle.std.proofs.Common.{◌≡◌, ℕ, ◌+◌, ◌-◌, ◌<◌, ◌≤◌, Bool, true, false, ◌⊎◌, List, [], ◌∷◌, ◌++◌, length, get_or, Some, None, MatchBool, sym, refl, ap, ◌∙◌, subst, inl, inr, ⊎_elim, arith}
-use Rattle.std.specs.List.{range_with_len, AllByRecursion as All}
+use Rattle.std.specs.List.{range_with_len, AllByRecursion}
 use Rattle.std.proofs.lemmas.List.{append-nil}
 use Rattle.std.proofs.ByRecursion.{All-append, All-weaker}
 use Rattle.std.proofs.lemmas.Bool.{cases_eq}
@@ -11,7 +11,7 @@ use Rattle.queues.proofs.Entries as entries
 use Rattle.queues.proofs.Lists as lists
 
 -- The entries of the list are the queue's, and none stands twice.
-pub threads_inside : (w : List ℕ) (q : Queue) (l : List ℕ) → Threads w q l → All (λ e. e < q.size) l
+pub threads_inside : (w : List ℕ) (q : Queue) (l : List ℕ) → Threads w q l → AllByRecursion (λ e. e < q.size) l
 threads_inside w q l t =
     rw t.list (All-append (λ e. e < q.size) (run q) t.back
     (entries.inside_counting q.fresh (q.size - q.fresh) q.size (omega (arith, t.chain.started)))

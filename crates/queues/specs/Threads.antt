@@ -1,6 +1,6 @@
 -- The list of the entries that wait, the longest waiting first, and how the table and the queue hold it.
 use Rattle.std.specs.Prelude.{◌≡◌, ℕ, ◌+◌, ◌-◌, ◌<◌, ◌≤◌, ◌⊎◌, List, [], ◌∷◌, ◌++◌, length, Some, None, Option, slice_index}
-use Rattle.std.specs.List.{range_with_len, AllByRecursion as All}
+use Rattle.std.specs.List.{range_with_len, AllByRecursion}
 use Rattle.queues.specs.declared.queue.Ends.{Ends}
 use Rattle.queues.specs.declared.queue.Queue.{Queue}
 use Rattle.queues.specs.Calls.{between}
@@ -37,7 +37,7 @@ pub record Chain (w : List ℕ) (m n : ℕ) (l : List ℕ) : Type 0 where
   pub started : m ≤ n
   pub range : n ≤ 131072
   pub room : n ≤ length w
-  pub inside : All (λ e. e < m) l
+  pub inside : AllByRecursion (λ e. e < m) l
   pub distinct : Distinct l
   pub linked : Linked w l
   pub others : (e : ℕ) → e < n → (In e l → ⊥) → slice_index w e ≡ 0

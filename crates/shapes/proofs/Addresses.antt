@@ -4,7 +4,7 @@ use mathlib.Core.List.{reverse-cons, reverse-append, reverse-reverse}
 use Rattle.std.proofs.ByRecursion.{All-push}
 use Rattle.std.proofs.lemmas.List.{same_from_push}
 use Rattle.std.proofs.lemmas.Bool.{cases_lt}
-use Rattle.std.specs.List.{AllByRecursion as All}
+use Rattle.std.specs.List.{AllByRecursion}
 use Rattle.shapes.specs.declared.axis.Axis.TheVariants.{First, Next, Owner, Previous}
 use Rattle.shapes.specs.Tree.{Tree, Laws}
 use Rattle.shapes.specs.Addresses.{Addressed, NodeAt, RightOf, SiblingTree, letters, address_of}
@@ -19,7 +19,7 @@ from_first v u n e = ap reverse e ∙ reverse-cons n u
 from_last : (v w : List ℕ) (n : ℕ) → reverse v ≡ w ++ n ∷ [] → v ≡ n ∷ reverse w
 from_last v w n e = sym (reverse-reverse v) ∙ ap reverse e ∙ reverse-append w (n ∷ [])
 
-all_reverse : (P : ℕ → Type 0) (w : List ℕ) → All P w → All P (reverse w)
+all_reverse : (P : ℕ → Type 0) (w : List ℕ) → AllByRecursion P w → AllByRecursion P (reverse w)
 all_reverse P [] a = a
 all_reverse P (n ∷ w) a = rw (reverse-cons n w) (All-push P (reverse w) n (all_reverse P w a.1) a.0)
 

@@ -1,6 +1,6 @@
 -- The letters of the nodes of a lawful tree, last letter first.
 use Rattle.std.proofs.Common.{◌≡◌, ℕ, zero, suc, ◌+◌, ◌<◌, ◌≤◌, ◌⊎◌, List, [], ◌∷◌, Some, None, sym, refl, ap, ◌∙◌, inl, inr, ⊎_elim, arith}
-use Rattle.std.specs.List.{AllByRecursion as All}
+use Rattle.std.specs.List.{AllByRecursion}
 use Rattle.shapes.specs.declared.axis.Axis.TheVariants.{First, Next}
 use Rattle.shapes.specs.Tree.{Tree, Laws}
 use Rattle.shapes.specs.Addresses.{raised, letters}
@@ -10,7 +10,7 @@ use Rattle.shapes.specs.Walks.{not_both}
 pub no_letter : (v w : List ℕ) (n : ℕ) → v ≡ [] → v ≡ n ∷ w → ⊥
 no_letter v w n e f = let z : ◌≡◌ {A = ℕ} 0 1 = cc in omega arith
 
-all_raised : (w : List ℕ) → All (λ n. 1 ≤ n) w → All (λ n. 1 ≤ n) (raised w)
+all_raised : (w : List ℕ) → AllByRecursion (λ n. 1 ≤ n) w → AllByRecursion (λ n. 1 ≤ n) (raised w)
 all_raised [] a = a
 all_raised (n ∷ w) a = (omega arith, a.1)
 
@@ -116,8 +116,8 @@ module _ (t : Tree) (l : Laws t) (L : ℕ → List ℕ) (s : Lettered t L) where
       (λ w. let b = before_next w.0 y w.1 in sibling w.0 b.position (L b.above) w.1 b.counted b.word (after_next w.0 y w.1)))
       (way_in t l y h)
 
-  pub all_counted : (x : ℕ) → x < t.count → All (λ n. 1 ≤ n) (L x)
-  all_counted = tree_ind t l (λ x. All (λ n. 1 ≤ n) (L x))
+  pub all_counted : (x : ℕ) → x < t.count → AllByRecursion (λ n. 1 ≤ n) (L x)
+  all_counted = tree_ind t l (λ x. AllByRecursion (λ n. 1 ≤ n) (L x))
       (rw root_none tt)
       (λ x y e a. rw (s.first x y e) (omega arith, a))
       (λ x y e a. rw (s.next x y e) (all_raised (L x) a))

@@ -1,7 +1,7 @@
 -- Addresses: a sibling tree by words of positive numbers.
 -- The letters are the positions from the root down, each counted from 1 at the first child.
 use Rattle.std.specs.Prelude.{◌≡◌, ℕ, zero, suc, ◌+◌, ◌<◌, ◌≤◌, List, [], ◌∷◌, ◌++◌, reverse, Some, None}
-use Rattle.std.specs.List.{AllByRecursion as All}
+use Rattle.std.specs.List.{AllByRecursion}
 use Rattle.shapes.specs.Tree.{Tree, Iff}
 
 -- some node has the word
@@ -19,7 +19,7 @@ pub record RightOf (v w : List ℕ) : Type 0 where
 pub record Addressed (t : Tree) (address : ℕ → List ℕ) : Type 0 where
   pub root : address 0 ≡ []
   pub outside : (x : ℕ) → t.count ≤ x → address x ≡ []
-  pub positive : (x : ℕ) → x < t.count → All (λ n. 1 ≤ n) (address x)
+  pub positive : (x : ℕ) → x < t.count → AllByRecursion (λ n. 1 ≤ n) (address x)
   pub distinct : (x y : ℕ) → x < t.count → y < t.count → address x ≡ address y → x ≡ y
   -- a word without its last letter, or with it lowered and still positive, is a node's word too
   pub shorter : (x : ℕ) (w : List ℕ) (n : ℕ) → x < t.count → address x ≡ w ++ n ∷ [] → NodeAt t address w

@@ -1,6 +1,6 @@
 -- From one state to the next: what the code leaves holds the state that a step of the rules leads to.
 use Rattle.std.proofs.Common.{◌≡◌, ℕ, zero, suc, ◌-◌, ◌*◌, ◌<◌, ◌≤◌, Bool, true, false, ◌&&◌, ◌||◌, T, eqb, ltb, List, [], ◌∷◌, ◌++◌, map, length, get_or, set, Some, None, Option, sym, refl, ap, ◌∙◌, subst, ap₂, inl, inr, arith}
-use Rattle.std.specs.List.{range_with_len, AllByRecursion as All}
+use Rattle.std.specs.List.{range_with_len, AllByRecursion}
 use Rattle.std.proofs.lemmas.List.{map-append, length-set, get_or-set_same, get_or-set_other}
 use Rattle.std.proofs.lemmas.Bool.{cases_eq, cases_lt, eq-eqb, ne_eqb, and_from, and_left, and_right, lt-ltb, le-ltb, cond-true, cond-false}
 use Rattle.grades.specs.Kind.{Kind, Says}
@@ -123,7 +123,7 @@ module _ {G : Type 0} (o : Opening G) (a : Admitted o.query) (laws : TreeLaws o.
   waited = first_some up.entries e (sym heads.head ∙ head_first l.waiting w.queue up.entries up.threads)
 
   inside : WokenInside o.tree o.query (head_entry_lem o.query n b e) w.queue.size
-  inside readers lists = subst (λ size. All (λ e. e < size) (woken o.tree o.query (first_of o.query b) node readers)) (sym up.size) (readers_inside o a laws b term node entry.dealt_here up.stands entry.node readers lists)
+  inside readers lists = subst (λ size. AllByRecursion (λ e. e < size) (woken o.tree o.query (first_of o.query b) node readers)) (sym up.size) (readers_inside o a laws b term node entry.dealt_here up.stands entry.node readers lists)
 
   requeued : Requeued o.tree o.query (head_entry_lem o.query n b e) (grades_in o.kind n l.values term node) grade (rest up.entries) waiting queue
   requeued = worked.lists up.entries up.threads inside

@@ -27,7 +27,7 @@ module _ {G : Type 0} (o : Opening G) (b : ℕ) where
     lasts_does : {s s' : State G} {c : Call G} {v : Answer G} (more : Calls G) → Does o s c v s' → Sound o s → T (s.settled b) → ReachedTimes o.query b ((c, v) ∷ more) 0 → Lasts o b s s'
     lasts_does {s = s} more (Does.retags x a g s' node tag r) sound h times = retag_lasts o f a x g s s' r b (times_unreached times) h
     lasts_does {s = s} more (Does.leaves x a g node tag same) sound h times = lasts_itself s h
-    lasts_does {s = s} more (Does.no_such_mark x a g no-mark) sound h times = lasts_itself s h
+    lasts_does {s = s} more (Does.no_such_mark x a g no_mark) sound h times = lasts_itself s h
     lasts_does {s = s} more (Does.steps all s' st says) sound h times = step_lasts o f s s' sound st b h
     lasts_does {s = s} more (Does.nothing_left all) sound h times = lasts_itself s h
     lasts_does {s = s} more (Does.runs k n all s' le makes says end) sound h times = lasts_makes makes sound h

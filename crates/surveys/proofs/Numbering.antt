@@ -1,6 +1,6 @@
 -- The entries of a block by their numbers.
 use Rattle.std.proofs.Common.{◌≡◌, ℕ, zero, suc, ◌+◌, ◌-◌, ◌*◌, ◌/◌, ◌%◌, ◌<◌, ◌⊎◌, List, [], ◌∷◌, map, length, sym, refl, ap, ◌∙◌, subst, ap₂, inl, inr, add-mul, arith}
-use Rattle.std.specs.List.{range_with_len, AllByRecursion as All}
+use Rattle.std.specs.List.{range_with_len, AllByRecursion}
 use Rattle.std.proofs.lemmas.Nat.{div-add-mod', div-mul-add, mod-mul-add, div_below, mod_below, mul-le}
 use Rattle.std.proofs.lemmas.Bool.{cases_order}
 use Rattle.queries.specs.Table.{Admitted, blocks_terms}
@@ -19,9 +19,9 @@ use Rattle.surveys.proofs.Spanning.{span_inside, in_span, span_has}
 -- numbers in rising order
 abbrev pub Rises : List ℕ → Type 0
 Rises [] = Unit {0}
-Rises (x ∷ l) = All (λ y. x < y) l × Rises l
+Rises (x ∷ l) = AllByRecursion (λ y. x < y) l × Rises l
 
-pub counting_above : (m a n : ℕ) → m < a → All (λ y. m < y) (range_with_len a n)
+pub counting_above : (m a n : ℕ) → m < a → AllByRecursion (λ y. m < y) (range_with_len a n)
 counting_above m a zero h = tt
 counting_above m a (suc n) h = (h, counting_above m (a + 1) n (omega arith))
 
@@ -73,7 +73,7 @@ module _ {G : Type 0} (o : Opening G) (b : ℕ) where
   place_waits_as e l h = let r = place_waits (place_in o b e) l h in subst (λ k. Waits k l) (sym (place_once e r.0 r.1.1)) r.1.0
 
   -- rising numbers have rising places
-  before_all : 0 < o.tree.count → (x : ℕ) (l : List ℕ) → All (λ y. x < y) l → (r : Place) → In r (map (place_in o b) l) → Before (place_in o b x) r
+  before_all : 0 < o.tree.count → (x : ℕ) (l : List ℕ) → AllByRecursion (λ y. x < y) l → (r : Place) → In r (map (place_in o b) l) → Before (place_in o b x) r
   before_all pos x [] h r i = absurd (in_none i)
   before_all pos x (y ∷ l) h r i = elim (in_cons i) [
     | inl same ↦ subst (λ z. Before (place_in o b x) z) (sym same) (place_order pos x y h.0)

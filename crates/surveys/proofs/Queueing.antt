@@ -1,6 +1,6 @@
 -- The entries that a change queues, as the rules tell them.
 use Rattle.std.proofs.Common.{◌≡◌, ℕ, zero, suc, ◌+◌, ◌-◌, ◌*◌, ◌<◌, ◌≤◌, true, false, eqb, ◌⊎◌, List, [], ◌∷◌, ◌++◌, map, length, get_or, Some, None, Option, sym, refl, ap, ◌∙◌, subst, inl, inr, add-mul, arith}
-use Rattle.std.specs.List.{ContainsAt as Has, AllByRecursion as All}
+use Rattle.std.specs.List.{ContainsAt as Has, AllByRecursion}
 use Rattle.std.proofs.lemmas.Nat.{mul-le}
 use Rattle.std.proofs.ByRecursion.{All-from_get_or}
 use Rattle.std.proofs.lemmas.Bool.{cases_Bool, cases_eq, eqb-true, eqb-false, or_cases, or_parts}
@@ -72,11 +72,11 @@ in_added e (x ∷ es) l h out = elim (in_or_out x l) [
   ])
 ]
 
-added_all : (P : ℕ → Type 0) (es l : List ℕ) → All P es → All P (added_by l es)
+added_all : (P : ℕ → Type 0) (es l : List ℕ) → AllByRecursion P es → AllByRecursion P (added_by l es)
 added_all P [] l h = tt
 added_all P (x ∷ es) l h = elim (in_or_out x l) [
-  | inl there ↦ subst (All P) (sym (added_waits l x es there)) (added_all P es l h.1)
-  | inr new ↦ subst (All P) (sym (added_new l x es new)) (h.0, added_all P es (l ++ (x ∷ [])) h.1)
+  | inl there ↦ subst (AllByRecursion P) (sym (added_waits l x es there)) (added_all P es l h.1)
+  | inr new ↦ subst (AllByRecursion P) (sym (added_new l x es new)) (h.0, added_all P es (l ++ (x ∷ [])) h.1)
 ]
 
 pub added_rises : (es l : List ℕ) → Rises es → Rises (added_by l es)
@@ -168,19 +168,19 @@ module _ (t : Tree) (q : Table) (first y : ℕ) where
 
   -- rising readers have rising entries
   module _ (laws : TreeLaws t) (inside : y < t.count) where
-    front_all : (P : ℕ → Type 0) (r : ℕ) (o : Option ℕ) (l : List ℕ) → ((x : ℕ) → o ≡ Some x → P ((r - first) * t.count + x)) → All P l → All P (in_front (numbered first t.count r o) l)
+    front_all : (P : ℕ → Type 0) (r : ℕ) (o : Option ℕ) (l : List ℕ) → ((x : ℕ) → o ≡ Some x → P ((r - first) * t.count + x)) → AllByRecursion P l → AllByRecursion P (in_front (numbered first t.count r o) l)
     front_all P r None l p h = h
     front_all P r (Some x) l p h = (p x refl, h)
 
-    pub woken_all : (P : ℕ → Type 0) (rs : List ℕ) → All (λ r. (x : ℕ) → x < t.count → P ((r - first) * t.count + x)) rs → All P (woken t q first y rs)
+    pub woken_all : (P : ℕ → Type 0) (rs : List ℕ) → AllByRecursion (λ r. (x : ℕ) → x < t.count → P ((r - first) * t.count + x)) rs → AllByRecursion P (woken t q first y rs)
     woken_all P [] h = tt
     woken_all P (r ∷ rs) h = front_all P r (reader_node_lem t (term_at q r) y) (woken t q first y rs) (λ x e. h.0 x (reader_inside t laws (term_at q r) y x inside (sym e))) (woken_all P rs h.1)
 
-    front_rises : (r : ℕ) (o : Option ℕ) (l : List ℕ) → ((x : ℕ) → o ≡ Some x → All (λ e. (r - first) * t.count + x < e) l) → Rises l → Rises (in_front (numbered first t.count r o) l)
+    front_rises : (r : ℕ) (o : Option ℕ) (l : List ℕ) → ((x : ℕ) → o ≡ Some x → AllByRecursion (λ e. (r - first) * t.count + x < e) l) → Rises l → Rises (in_front (numbered first t.count r o) l)
     front_rises r None l p h = h
     front_rises r (Some x) l p h = (p x refl, h)
 
-    pub woken_rises : (rs : List ℕ) → Rises rs → All (λ r. first ≤ r) rs → Rises (woken t q first y rs)
+    pub woken_rises : (rs : List ℕ) → Rises rs → AllByRecursion (λ r. first ≤ r) rs → Rises (woken t q first y rs)
     woken_rises [] h from = tt
     woken_rises (r ∷ rs) h from =
         front_rises r (reader_node_lem t (term_at q r) y) (woken t q first y rs)
@@ -190,7 +190,7 @@ module _ (t : Tree) (q : Table) (first y : ℕ) where
         later : (x : ℕ) → x < t.count → (d : ℕ) → r < d → (z : ℕ) → (r - first) * t.count + x < (d - first) * t.count + z
         later x node d less z = let low : first ≤ r = from.0 in omega (arith, add-mul (r - first) 1 t.count, mul-le (r - first + 1) t.count (d - first) t.count (omega arith) (omega arith))
 
-        above : (x : ℕ) → x < t.count → (ds : List ℕ) → All (λ d. r < d) ds → All (λ d. (z : ℕ) → z < t.count → (r - first) * t.count + x < (d - first) * t.count + z) ds
+        above : (x : ℕ) → x < t.count → (ds : List ℕ) → AllByRecursion (λ d. r < d) ds → AllByRecursion (λ d. (z : ℕ) → z < t.count → (r - first) * t.count + x < (d - first) * t.count + z) ds
         above x node [] h = tt
         above x node (d ∷ ds) h = (λ z _. later x node d h.0 z, above x node ds h.1)
 
@@ -202,14 +202,14 @@ module _ {G : Type 0} (o : Opening G) (a : Admitted o.query) (laws : TreeLaws o.
   reader_dealt : (r : ℕ) → Waits r readers → Dealt o.query.blocks r b
   reader_dealt r h = let k = reader_of r h in span_has a b r k.stands (k.same_block ∙ own)
 
-  all_of : (P : ℕ → Type 0) (rs : List ℕ) → ((r : ℕ) → Waits r rs → P r) → All P rs
+  all_of : (P : ℕ → Type 0) (rs : List ℕ) → ((r : ℕ) → Waits r rs → P r) → AllByRecursion P rs
   all_of P [] h = tt
   all_of P (r ∷ rs) h = (h r (inl refl), all_of P rs (λ d i. h d (inr i)))
 
   reader_entry : (r x : ℕ) → Waits r readers → x < o.tree.count → EntryOf o b r x
   reader_entry r x h node = let k = reader_of r h in record { term = k.stands; dealt_here = k.same_block ∙ own; node = node }
 
-  pub readers_inside : All (λ e. e < blocks_terms o.query b * o.tree.count) (woken o.tree o.query (first_of o.query b) y readers)
+  pub readers_inside : AllByRecursion (λ e. e < blocks_terms o.query b * o.tree.count) (woken o.tree o.query (first_of o.query b) y readers)
   readers_inside =
       woken_all o.tree o.query (first_of o.query b) y laws inside (λ e. e < blocks_terms o.query b * o.tree.count) readers
       (all_of (λ r. (x : ℕ) → x < o.tree.count → (r - first_of o.query b) * o.tree.count + x < blocks_terms o.query b * o.tree.count) readers

@@ -1,6 +1,6 @@
 -- The entries of the readers of a term, and what is left of them to be put in a queue.
 use Rattle.std.proofs.Common.{◌≡◌, ℕ, ◌+◌, ◌<◌, ◌≤◌, Bool, true, false, cond, eqb, List, [], ◌∷◌, ◌++◌, length, get_or, drop, Some, None, MatchBool, Option, sym, refl, ap, ◌∙◌, subst, inl, inr, arith}
-use Rattle.std.specs.List.{slice_get, AllByRecursion as All}
+use Rattle.std.specs.List.{slice_get, AllByRecursion}
 use Rattle.std.proofs.lemmas.List.{append_assoc, append-nil, get_or_past, at_drop_more, at_drop_all}
 use Rattle.std.proofs.lemmas.Option.{slice_get-get_or, slice_get_past}
 use Rattle.std.proofs.lemmas.Bool.{cases_lt, eq-eqb, ne_eqb, or_left, or_right, or_from}
@@ -63,7 +63,7 @@ added_new l e es h = ap (λ b. cond b (added_by l es) (e ∷ added_by (l ++ (e �
 pub record Putting (w : List ℕ) (queue : Queue) (size : ℕ) (left final : List ℕ) : Type 0 where
   pub list : List ℕ
   pub threads : Threads w queue list
-  pub inside : All (λ e. e < size) left
+  pub inside : AllByRecursion (λ e. e < size) left
   pub leads : list ++ added_by list left ≡ final
 
 pub put_one : (w w' : List ℕ) (q q' : Queue) (size e : ℕ) (left final : List ℕ) (b : Bool) → q.size ≡ size →
@@ -86,7 +86,7 @@ module _ (t : Tree) (q : Table) (first y : ℕ) (readers : List ℕ) where
   abbrev pub LeftToPut : List ℕ → Queue → ℕ → ℕ → List ℕ → Type 0
   LeftToPut w queue size i l = Putting w queue size (woken t q first y (drop i readers)) (l ++ added_by l (woken t q first y readers))
 
-  pub left_all : (w : List ℕ) (queue : Queue) (l : List ℕ) → Threads w queue l → All (λ e. e < queue.size) (woken t q first y readers) → LeftToPut w queue queue.size 0 l
+  pub left_all : (w : List ℕ) (queue : Queue) (l : List ℕ) → Threads w queue l → AllByRecursion (λ e. e < queue.size) (woken t q first y readers) → LeftToPut w queue queue.size 0 l
   left_all w queue l threads inside = record { list = l; threads = threads; inside = inside; leads = refl }
 
   pub left_none : (w : List ℕ) (queue : Queue) (size i : ℕ) (l : List ℕ) → length readers ≤ i → LeftToPut w queue size i l → Threads w queue (l ++ added_by l (woken t q first y readers))
@@ -112,7 +112,7 @@ module _ (t : Tree) (q : Table) (first y : ℕ) (readers : List ℕ) where
   pub record WokenSoFar (w₀ : List ℕ) (q₀ : Queue) (w : List ℕ) (queue : Queue) (i : ℕ) : Type 0 where
     pub size : queue.size ≡ q₀.size
     pub above : (k : ℕ) → q₀.size ≤ k → get_or w k 0 ≡ get_or w₀ k 0
-    pub lists : (l : List ℕ) → Threads w₀ q₀ l → All (λ e. e < q₀.size) (woken t q first y readers) → LeftToPut w queue q₀.size i l
+    pub lists : (l : List ℕ) → Threads w₀ q₀ l → AllByRecursion (λ e. e < q₀.size) (woken t q first y readers) → LeftToPut w queue q₀.size i l
 
   pub so_far_none : (w₀ : List ℕ) (q₀ : Queue) → WokenSoFar w₀ q₀ w₀ q₀ 0
   so_far_none w₀ q₀ = record { size = refl; above = λ k h. refl; lists = left_all w₀ q₀ }

@@ -1,6 +1,6 @@
 -- What the parts of a step find and leave.
 use Rattle.std.specs.Prelude.{◌≡◌, ℕ, ◌<◌, List, [], ◌++◌, ◌≢◌}
-use Rattle.std.specs.List.{AllByRecursion as All}
+use Rattle.std.specs.List.{AllByRecursion}
 use Rattle.grades.specs.Kind.{Kind}
 use Rattle.shapes.specs.Tree.{Tree}
 use Rattle.queries.specs.Queries.{ListsReaders}
@@ -37,4 +37,4 @@ pub record Requeued {G : Type 0} (t : Tree) (q : Table) (h : HeadEntry) (old new
 
 -- the entries of the readers are below the size of the queue
 abbrev pub WokenInside : Tree → Table → HeadEntry → ℕ → Type 0
-WokenInside t q h size = (readers : List ℕ) → ListsReaders q h.term readers → All (λ e. e < size) (woken t q h.first h.node readers)
+WokenInside t q h size = (readers : List ℕ) → ListsReaders q h.term readers → AllByRecursion (λ e. e < size) (woken t q h.first h.node readers)

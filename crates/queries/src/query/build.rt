@@ -3,7 +3,7 @@ ghost use Rattle.std.specs.Prelude.{◌≡◌, length, IfOk, MatchResult};
 ghost use Rattle.queries.specs.declared.refusal.QueryRefusal.TheVariants.{NoMemory};
 ghost use Rattle.queries.specs.Admission.{Admissible, RefusedFor};
 ghost use Rattle.queries.specs.Queries.{table_of, lowest_alone};
-ghost use Rattle.queries.specs.Rows.{rows, told as told-by};
+ghost use Rattle.queries.specs.Rows.{rows, told as told_by};
 ghost use Rattle.queries.specs.Table.{table, block_of, Admitted};
 ghost use Rattle.queries.specs.Workings.{listed};
 
@@ -52,8 +52,8 @@ fn told(
     assigned: &[usize],
 ) -> Result<Query, AllocError>
     requires rules { Admissible (rows tags blocks.now terms.now) }
-    requires assigned { assigned.now ≡ listed (block_of (told-by (rows tags blocks.now terms.now))) (length terms.now) }
-    ensures { IfOk result (λ q. table_of q ≡ told-by (rows tags blocks.now terms.now)) }
+    requires assigned { assigned.now ≡ listed (block_of (told_by (rows tags blocks.now terms.now))) (length terms.now) }
+    ensures { IfOk result (λ q. table_of q ≡ told_by (rows tags blocks.now terms.now)) }
 {
     let blocks = blocks_told(heap, blocks)?;
     let terms = terms_told(heap, terms)?;
@@ -92,7 +92,7 @@ impl Query {
         blocks: &[BlockRow],
         terms: &[TermRow],
     ) -> Result<(), QueryRefusal>
-        ensures { MatchResult result (λ _. Admissible (rows tags blocks.now terms.now) × (table_of self.new ≡ told-by (rows tags blocks.now terms.now))) (λ e. (self.new ≡ self.old) × RefusedFor (rows tags blocks.now terms.now) e) }
+        ensures { MatchResult result (λ _. Admissible (rows tags blocks.now terms.now) × (table_of self.new ≡ told_by (rows tags blocks.now terms.now))) (λ e. (self.new ≡ self.old) × RefusedFor (rows tags blocks.now terms.now) e) }
     {
         let assigned = check(tags, blocks, terms)?;
         let Ok(query) = told(heap, tags, blocks, terms, &assigned[0..terms.len()]) else {

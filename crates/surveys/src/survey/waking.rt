@@ -1,6 +1,6 @@
 //! Queueing the entries that read a changed one.
 ghost use Rattle.std.specs.Prelude.{◌≡◌, ℕ, ◌<◌, ◌≤◌, List, ◌++◌, length, slice_index};
-ghost use Rattle.std.specs.List.{AllByRecursion as All};
+ghost use Rattle.std.specs.List.{AllByRecursion};
 ghost use Rattle.shapes.specs.Shapes.{tree_of};
 ghost use Rattle.shapes.specs.Tree.{back};
 ghost use Rattle.queries.specs.Queries.{table_of};
@@ -67,7 +67,7 @@ pub(super) fn wake<S: Shape>(
     waiting: &mut [u32],
 )
     requires { node < S.count shape.now }
-    ensures lists { (l : List ℕ) → Threads waiting.old queue.old l → All (λ e. e < queue.old.size) (woken (tree_of S.Shape shape.now) (table_of query.now) first node readers.now) → Threads waiting.new queue.new (l ++ added_by l (woken (tree_of S.Shape shape.now) (table_of query.now) first node readers.now)) }
+    ensures lists { (l : List ℕ) → Threads waiting.old queue.old l → AllByRecursion (λ e. e < queue.old.size) (woken (tree_of S.Shape shape.now) (table_of query.now) first node readers.now) → Threads waiting.new queue.new (l ++ added_by l (woken (tree_of S.Shape shape.now) (table_of query.now) first node readers.now)) }
     ensures size { queue.new.size ≡ queue.old.size }
     ensures len { length waiting.new ≡ length waiting.old }
     ensures above { (k : ℕ) → queue.old.size ≤ k → slice_index waiting.new k ≡ slice_index waiting.old k }

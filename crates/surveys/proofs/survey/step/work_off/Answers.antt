@@ -1,5 +1,5 @@
 use Rattle.std.proofs.Common.{◌+◌, ◌*◌, ◌<◌, set, sym, ap, ◌∙◌, subst, arith}
-use Rattle.std.specs.List.{AllByRecursion as All}
+use Rattle.std.specs.List.{AllByRecursion}
 use Rattle.shapes.specs.Shapes.{tree_of}
 use Rattle.queries.specs.Queries.{table_of}
 use Rattle.queues.specs.Threads.{rest}
@@ -30,7 +30,7 @@ returns g c =
       values = ap (λ n. set c.args.values.now (c.args.entry.term * n + c.args.entry.node) c.args.grade) c.node_count.ensures;
       lists = λ l threads inside.
           requeued_some t q c.args.entry _ c.args.grade (rest l) c.wake.new.waiting c.wake.new.queue (λ e. c.if-same.ensures.1 (e ∙ sym is)) readers c.readers_of.ensures.lists
-          (c.wake.ensures.lists (rest l) (c.take.ensures.lists l threads).1 (subst (λ n. All (λ e. e < n) (woken t q c.args.entry.first c.args.entry.node readers)) (sym c.take.ensures.size) (inside readers c.readers_of.ensures.lists)));
+          (c.wake.ensures.lists (rest l) (c.take.ensures.lists l threads).1 (subst (λ n. AllByRecursion (λ e. e < n) (woken t q c.args.entry.first c.args.entry.node readers)) (sym c.take.ensures.size) (inside readers c.readers_of.ensures.lists)));
       size = c.wake.ensures.size ∙ c.take.ensures.size;
       len = c.wake.ensures.len ∙ c.take.ensures.len;
       above = λ k h. c.wake.ensures.above k (omega (arith, c.take.ensures.size)) ∙ c.take.ensures.above k h;
