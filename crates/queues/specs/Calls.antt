@@ -5,7 +5,7 @@ use Rattle.queues.specs.declared.queue.Ends.{Ends}
 use Rattle.queues.specs.declared.queue.Queue.{Queue}
 
 -- Only the places of the entries below the size n are read and written: another reads as 0, and a write there changes nothing.
--- So it is past the table's end too, by what `get_or` and `set` mean.
+-- So it is past the table's end too, by what `slice_index` and `slice_set` mean.
 abbrev pub place_of : ℕ → List ℕ → ℕ → ℕ
 place_of n w e = cond (nat_lt e n) (slice_index w e) 0
 

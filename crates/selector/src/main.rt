@@ -1,4 +1,6 @@
 //! The junction selector: a model of depths on standard input, its neighbours on standard output.
+#![tactic(auto)]
+
 mod audit;
 mod listing;
 mod sample;

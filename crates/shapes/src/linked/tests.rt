@@ -3,7 +3,6 @@ use crate::linked::LinkedShape;
 use crate::links::Links;
 use crate::shape::Shape;
 use std::alloc::Global;
-use std::process::Abort;
 use std::test::Fail;
 
 const N: u16 = 65_535;
@@ -30,15 +29,17 @@ fn junction(heap: Global) -> Result<LinkedShape, Fail> {
     Ok(shape)
 }
 
-// The number under which a junction refuses the table, and stays as it was.
-fn refused(rt: &impl Abort, heap: Global, rows: &[Links], number: u8) -> Result<(), Fail> {
+// That a junction refuses the table under the number, and stays as it was.
+fn refused(heap: Global, rows: &[Links], number: u8) -> Result<(), Fail> {
     let mut shape = junction(heap)?;
     match shape.fill(heap, rows) {
         Ok(()) => return Err(Fail::new("taken")),
-        Err(refusal) => assert_eq!(rt; refusal.number(), number),
+        Err(refusal) if refusal.number() != number => return Err(Fail::new("another number")),
+        Err(_) => {},
     }
-    assert_eq!(rt; shape.node_count(), 4);
-    assert_eq!(rt; shape.first_of(2), Some(3));
+    if shape.node_count() != 4 || shape.first_of(2) != Some(3) {
+        return Err(Fail::new("altered"));
+    }
     Ok(())
 }
 
@@ -56,13 +57,12 @@ fn junction_is_taken(rt: HostRuntime) -> Result<(), Fail> {
 
 #[test]
 fn no_rows_are_refused(rt: HostRuntime) -> Result<(), Fail> {
-    refused(&rt, rt.alloc(), &[], 1)
+    refused(rt.alloc(), &[], 1)
 }
 
 #[test]
 fn cycle_off_the_root_is_refused(rt: HostRuntime) -> Result<(), Fail> {
     refused(
-        &rt,
         rt.alloc(),
         &[row(N, N, N, N), row(2, N, 2, N), row(1, N, 1, N)],
         2,
@@ -72,7 +72,6 @@ fn cycle_off_the_root_is_refused(rt: HostRuntime) -> Result<(), Fail> {
 #[test]
 fn owner_and_previous_are_refused(rt: HostRuntime) -> Result<(), Fail> {
     refused(
-        &rt,
         rt.alloc(),
         &[row(1, N, N, N), row(2, 2, 0, N), row(N, N, 1, 1)],
         2,
@@ -81,10 +80,10 @@ fn owner_and_previous_are_refused(rt: HostRuntime) -> Result<(), Fail> {
 
 #[test]
 fn link_out_of_range_is_refused(rt: HostRuntime) -> Result<(), Fail> {
-    refused(&rt, rt.alloc(), &[row(1, N, N, N), row(N, 2, 0, N)], 2)
+    refused(rt.alloc(), &[row(1, N, N, N), row(N, 2, 0, N)], 2)
 }
 
 #[test]
 fn one_sided_link_is_refused(rt: HostRuntime) -> Result<(), Fail> {
-    refused(&rt, rt.alloc(), &[row(N, N, N, N), row(N, N, 0, N)], 2)
+    refused(rt.alloc(), &[row(N, N, N, N), row(N, N, 0, N)], 2)
 }

@@ -1,7 +1,7 @@
 //! Reading a row.
 ghost use Rattle.std.specs.Prelude.{◌≡◌, ℕ, ◌+◌, ◌*◌, ◌≤◌, List, length, take, drop, IfOk, MatchResult};
 ghost use denote.Param.{layout};
-ghost use prog.Memory.{size as type_size};
+ghost use prog.Memory.{size as bytes_of};
 ghost use Rattle.shapes.specs.Shapes.{tree_of};
 ghost use Rattle.queries.specs.Queries.{table_of};
 ghost use Rattle.meaning.specs.Solutions.{Grades};
@@ -29,7 +29,7 @@ impl Survey {
     ) -> Result<&'a [G], SurveyRefusal>
         ensures causes { MatchResult result (λ _. Readable self.now (S.Shape.count shape.now) (table_of query.now) (length values.now) term) (λ e. ReadRefused self.now (S.Shape.count shape.now) (table_of query.now) (length values.now) term e) }
         ensures row { IfOk result (λ s. s.now ≡ take (S.Shape.count shape.now) (drop (term * S.Shape.count shape.now) values.now)) }
-        ensures place { IfOk result (λ s. (s.ref_ptr.0 ≡ values.entry.ref_ptr.0) × (s.ref_ptr.1 ≡ values.entry.ref_ptr.1 + term * S.Shape.count shape.now * type_size (layout G.row))) }
+        ensures place { IfOk result (λ s. (s.ref_ptr.0 ≡ values.entry.ref_ptr.0) × (s.ref_ptr.1 ≡ values.entry.ref_ptr.1 + term * S.Shape.count shape.now * bytes_of (layout G.row))) }
         ensures rules { (m : Grades G) (s : State G) (marks : List G) (waiting : List ℕ) → Stands (opening G.kind (tree_of S.Shape shape.now) (table_of query.now) m) s self.now (lent marks values.now waiting) → Does (opening G.kind (tree_of S.Shape shape.now) (table_of query.now) m) s (reading term) (of_reading G.kind result) s }
     {
         let nodes = shape.node_count();
@@ -45,7 +45,7 @@ fn row_of<G: Grade>(values: &[G], nodes: usize, row: usize) -> &[G]
     requires { row * nodes + nodes ≤ length values.now }
     ensures content { result.now ≡ take nodes (drop (row * nodes) values.now) }
     ensures block { result.ref_ptr.0 ≡ values.entry.ref_ptr.0 }
-    ensures offset { result.ref_ptr.1 ≡ values.entry.ref_ptr.1 + row * nodes * type_size (layout G.row) }
+    ensures offset { result.ref_ptr.1 ≡ values.entry.ref_ptr.1 + row * nodes * bytes_of (layout G.row) }
 {
     let start = row * nodes;
     &values[start..start + nodes]
