@@ -16,10 +16,11 @@ import sys
 TOKEN = r"[^\s(){}\[\].,;:\"|@]+"
 WORD = re.compile(TOKEN)
 OTHERS = ("Rattle.std.", "mathlib.", "borrow.", "denote.", "Prim.", "prog.", "lib.", "native.")
-# names that the check makes: the steps of a proof and the parts of a goal
 # Names that stand already as a module, a label or a ghost field, where nothing imports both
 STANDS = {"ReachedTimes", "StepAnswers", "sibling_tree", "yes_no", "all_dealt", "few_tags", "few_terms", "no_empty_block", "no_later_block", "operands_stand", "some_term", "tag_stands", "turn_earlier"}
+# Names that would fall together with a variant
 OTHERWISE = {"All-settled": "EveryBlockSettled", "Not-opened": "RefusedOpening"}
+# Names that the check makes: the steps of a proof and the parts of a goal
 MADE = re.compile(r"^(?:loop|invariant|decreases|returns|overflow|bounds|offset|in|then|else|if|match|branch|prove|slice_bounds|the|while|case|arm)-")
 
 
