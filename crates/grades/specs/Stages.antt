@@ -1,11 +1,11 @@
 -- Stage sets stage by stage, and their laws, each from that of yes and no at every stage.
-use Rattle.std.specs.Prelude.{◌≡◌, ℕ, ◌-◌, ◌^◌, ◌<◌, Bool, false, not, ◌&&◌, T, bit_and, refl}
+use Rattle.std.specs.Prelude.{◌≡◌, ℕ, ◌-◌, ◌^◌, ◌<◌, Bool, false, not, ◌&&◌, bit_and, refl}
 use Rattle.std.proofs.Common.{sym, ap, ◌∙◌, inl, inr, zero-le, arith, rules, eqb→eq, lit<, lit≤}
 use mathlib.Core.HLevel.{is_prop→PathP}
 use Rattle.std.proofs.Math.Bridge.{le_prop}
 use Rattle.std.proofs.lemmas.Nat.{ones-le}
 use Rattle.std.proofs.Math.Dec.{eqb_refl}
-use Rattle.grades.specs.ByStage.{KeptByStage, EqualByStage, BelowByStage}
+use Rattle.grades.specs.ByStage.{KeptByStage, EqualByStage}
 use Rattle.grades.specs.Kind.{Below, Laws}
 use Rattle.grades.specs.StageSets.{bit, digit, stage_sets}
 use Rattle.grades.specs.YesNo.{yes_no}
@@ -41,27 +41,15 @@ absorbed a b e = search rules
 absorbs : (a b : Bool) → Below yes_no a b → (a && b) ≡ a
 absorbs a b h = search rules
 
-implied : (a b : Bool) → Below yes_no a b → T a → T b
-implied a b h = search rules
-
-implies : (a b : Bool) → (T a → T b) → Below yes_no a b
-implies a b h = search rules
-
-at_stage : (x y : StageSet) → Below stage_sets x y → (s : ℕ) → Below yes_no (bit s x) (bit s y)
+pub at_stage : (x y : StageSet) → Below stage_sets x y → (s : ℕ) → Below yes_no (bit s x) (bit s y)
 at_stage x y h s = absorbed (bit s x) (bit s y) (sym (digit_and s x.stages y.stages) ∙ ap (digit s) (eqb→eq _ _ h))
 
-from_stages : (x y : StageSet) → ((s : ℕ) → s < 32 → Below yes_no (bit s x) (bit s y)) → Below stage_sets x y
+pub from_stages : (x y : StageSet) → ((s : ℕ) → s < 32 → Below yes_no (bit s x) (bit s y)) → Below stage_sets x y
 from_stages x y below =
     let same : bit_and x.stages y.stages ≡ x.stages =
     digits_tell 32 (bit_and x.stages y.stages) x.stages (stage_sets.met x y).fits x.fits
     (λ s l. digit_and s x.stages y.stages ∙ absorbs (bit s x) (bit s y) (below s l)) in
     rw same (eqb_refl x.stages)
-
-pub below_by_stage : BelowByStage
-below_by_stage x y = (
-  λ h s _. implied (bit s x) (bit s y) (at_stage x y h s),
-  λ h. from_stages x y (λ s l. implies (bit s x) (bit s y) (h s l)),
-)
 
 pub stage_set_laws : Laws stage_sets
 stage_set_laws = record {

@@ -69,21 +69,6 @@ level_next ds x y s =
     ∙ (ap (λ m. 1 + minima ds (x + n) m) d
     ∙ omega (arith, minima_deeper ds x n (depth_at ds x) (λ k a b. s.between k a (omega arith)))))
 
--- a node has one next sibling and one previous one at most
-pub next_once : (ds : List ℕ) (x y z : ℕ) → NextSibling ds x y → NextSibling ds x z → z ≤ y
-next_once ds x y z s t =
-    elim (cases_lt y z) [
-      | inl h ↦ absurd (omega (arith, s.level, t.between y s.later h))
-      | inr h ↦ h
-    ]
-
-pub previous_once : (ds : List ℕ) (x w y : ℕ) → NextSibling ds x y → NextSibling ds w y → w ≤ x
-previous_once ds x w y s t =
-    elim (cases_lt x w) [
-      | inl h ↦ absurd (omega (arith, s.level, t.level, s.between w h t.later))
-      | inr h ↦ h
-    ]
-
 -- a first child has no previous sibling
 pub first_no_previous : (ds : List ℕ) (p x y : ℕ) → FirstChild ds x y → NextSibling ds p y → ⊥
 first_no_previous ds p x y c s =

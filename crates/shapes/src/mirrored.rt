@@ -4,7 +4,7 @@ ghost use Rattle.shapes.specs.Mirrored.{mirrored};
 ghost use Rattle.shapes.specs.Mirrors.{MirrorOf, walk_end};
 ghost use Rattle.shapes.specs.Shapes.{tree_of};
 ghost use Rattle.shapes.specs.Tree.{along, SameTree};
-ghost use Rattle.shapes.specs.MirrorsLemmas.{mirror_laws};
+ghost use Rattle.shapes.specs.MirrorLaws.{mirror_laws};
 
 use crate::axis::Axis;
 use crate::shape::Shape;

@@ -4,7 +4,7 @@ ghost use Rattle.shapes.specs.DepthTables.{deeper};
 ghost use Rattle.std.specs.Prelude.{◌≡◌, None, slice_index_or};
 ghost use Rattle.std.proofs.Math.Logic.{∥∥₁_elim};
 ghost use Rattle.shapes.specs.DepthLaws.{depth_laws};
-ghost use Rattle.shapes.specs.DepthTrees.{lawful_prop, tree_prop};
+ghost use Rattle.shapes.specs.DepthProps.{lawful_prop, tree_prop};
 
 use crate::depth::DepthShape;
 use crate::shape::Shape;

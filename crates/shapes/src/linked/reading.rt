@@ -1,6 +1,6 @@
 //! A linked shape read as a tree.
 ghost use Rattle.shapes.specs.LinkedShapes.{linked_shape_tree};
-ghost use Rattle.shapes.specs.Verdicts.{lawful_table};
+ghost use Rattle.shapes.specs.TableLaws.{lawful_table};
 
 use crate::axis::Axis;
 use crate::linked::LinkedShape;

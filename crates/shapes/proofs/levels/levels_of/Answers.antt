@@ -1,6 +1,6 @@
 use Rattle.std.proofs.Common.{arith}
 use Rattle.shapes.specs.Levels.{reached}
-use Rattle.shapes.specs.Reaching.{visited_more, visited_all}
+use Rattle.shapes.proofs.Reaching.{visited_more, visited_all}
 use Rattle.shapes.proofs.levels.levels_of.Goals as goal
 
 pub loop-place-preserved : goal.loop-place-preserved

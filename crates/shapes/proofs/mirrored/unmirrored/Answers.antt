@@ -2,7 +2,7 @@ use Rattle.std.proofs.Common.{◌≡◌, sym, ap, ◌∙◌, subst}
 use Rattle.shapes.specs.Mirrored.{mirrored}
 use Rattle.shapes.specs.Shapes.{tree_of}
 use Rattle.shapes.specs.Tree.{SameTree}
-use Rattle.shapes.specs.MirrorsLemmas.{mirror_twice}
+use Rattle.shapes.proofs.Mirrors.{mirror_twice}
 use Rattle.shapes.proofs.mirrored.unmirrored.Goals as goal
 
 pub returns : goal.returns

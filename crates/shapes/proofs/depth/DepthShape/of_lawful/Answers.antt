@@ -2,7 +2,7 @@ use Rattle.std.proofs.Common.{length, vec_items, sym, subst}
 use Rattle.shapes.specs.Tree.{Countable}
 use Rattle.shapes.specs.Depths.{LawfulDepths, DepthTree, NextSibling}
 use Rattle.shapes.specs.DepthTables.{Tells, table_tree}
-use Rattle.shapes.specs.DepthTrees.{copied_tree, previous_inside, previous_of_one}
+use Rattle.shapes.proofs.DepthTrees.{copied_tree, previous_inside, previous_of_one}
 use Rattle.shapes.proofs.depth.DepthShape.of_lawful.Goals as goal
 
 pub reversed-requires : goal.reversed-requires

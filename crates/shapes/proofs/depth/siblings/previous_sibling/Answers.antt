@@ -1,5 +1,5 @@
 use Rattle.std.proofs.Common.{arith}
-use Rattle.shapes.specs.DepthSteps.{depth_bound, previous_latest, previous_none}
+use Rattle.shapes.proofs.DepthSteps.{depth_bound, previous_latest, previous_none}
 use Rattle.shapes.proofs.depth.siblings.previous_sibling.Goals as goal
 use Rattle.shapes.proofs.depth.siblings.previous_sibling.Goals.{else-node-gt0-via-then-node-gt0+else-depths-node, else-node-gt0-via-else-node-gt0}
 

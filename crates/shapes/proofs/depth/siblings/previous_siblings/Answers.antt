@@ -1,7 +1,7 @@
 use Rattle.std.proofs.Common.{◌+◌, sym, ◌∙◌, subst, arith}
 use Rattle.shapes.specs.DepthTables.{AllLatest}
 use Rattle.shapes.specs.Depths.{NextSibling}
-use Rattle.shapes.specs.DepthSteps.{TellsBelow, depth_bound, latest_more, tells_more, tells_all, tells_none}
+use Rattle.shapes.proofs.DepthSteps.{TellsBelow, depth_bound, latest_more, tells_more, tells_all, tells_none}
 use Rattle.shapes.proofs.depth.siblings.previous_siblings.Goals as goal
 
 pub loop-node-init : goal.loop-node-init

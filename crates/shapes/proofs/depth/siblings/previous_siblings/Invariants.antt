@@ -1,7 +1,7 @@
 use Rattle.std.proofs.Common.{◌≡◌, length, vec_items, vec_len}
 use Rattle.shapes.specs.DepthTables.{AllLatest}
 use Rattle.shapes.specs.Depths.{NextSibling}
-use Rattle.shapes.specs.DepthSteps.{TellsBelow}
+use Rattle.shapes.proofs.DepthSteps.{TellsBelow}
 use Rattle.shapes.proofs.depth.siblings.previous_siblings.Given as goal
 
 abbrev pub invariant-loop-node : goal.invariant-loop-node

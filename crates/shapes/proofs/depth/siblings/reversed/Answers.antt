@@ -1,5 +1,5 @@
 use Rattle.std.proofs.Common.{◌+◌, Some, None, vec_items, vec_len, sym, refl, ap, ◌∙◌, subst, arith}
-use Rattle.shapes.specs.DepthSteps.{TellsValues, LeadsBack, back_none, back_some, back_skip, back_all}
+use Rattle.shapes.proofs.DepthSteps.{TellsValues, LeadsBack, back_none, back_some, back_skip, back_all}
 use Rattle.shapes.proofs.depth.siblings.reversed.Goals as goal
 use Rattle.shapes.proofs.depth.siblings.reversed.Goals.{in-Some, in_default}
 

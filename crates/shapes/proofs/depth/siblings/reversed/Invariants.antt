@@ -1,5 +1,5 @@
 use Rattle.std.proofs.Common.{◌≡◌, length, vec_items, vec_len}
-use Rattle.shapes.specs.DepthSteps.{TellsValues, LeadsBack}
+use Rattle.shapes.proofs.DepthSteps.{TellsValues, LeadsBack}
 use Rattle.shapes.proofs.depth.siblings.reversed.Given as goal
 
 abbrev pub invariant-loop-y : goal.invariant-loop-y

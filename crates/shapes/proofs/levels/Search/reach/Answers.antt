@@ -1,5 +1,5 @@
 use Rattle.std.proofs.Common.{◌≡◌, get_or, vec_items, arith, rules}
-use Rattle.shapes.specs.Reaching.{unknown_inside}
+use Rattle.shapes.proofs.Reaching.{unknown_inside}
 use Rattle.shapes.proofs.levels.Search.reach.Goals as goal
 
 pub index_mut-requires : goal.index_mut-requires

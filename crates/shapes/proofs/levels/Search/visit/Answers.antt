@@ -1,7 +1,7 @@
 use Rattle.std.proofs.Common.{◌≡◌, ◌+◌, ◌<◌, length, vec_items, sym, arith, rules}
 use Rattle.shapes.specs.Levels.{level_below}
 use Rattle.shapes.specs.Levels.{reached}
-use Rattle.shapes.specs.Reaching.{placed, visit_steps, visit_past}
+use Rattle.shapes.proofs.Reaching.{placed, visit_steps, visit_past}
 use Rattle.shapes.proofs.levels.Search.visit.Goals as goal
 
 pub overflow_add-level : goal.overflow_add-level

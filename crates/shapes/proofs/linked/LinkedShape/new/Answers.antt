@@ -1,7 +1,7 @@
 use Rattle.std.proofs.Common.{length, sym, subst, arith}
 use Rattle.shapes.specs.Certified.{Certified}
 use Rattle.shapes.specs.Tree.{Countable}
-use Rattle.shapes.specs.Verdicts.{one_node}
+use Rattle.shapes.proofs.Verdicts.{one_node}
 use Rattle.shapes.proofs.linked.LinkedShape.new.Goals as goal
 
 pub invariant_of-result : goal.invariant_of-result

@@ -1,5 +1,5 @@
 use Rattle.std.proofs.Common.{◌∙◌}
-use Rattle.shapes.specs.Verdicts.{verdict}
+use Rattle.shapes.proofs.Verdicts.{verdict}
 use Rattle.shapes.proofs.linked.filling.is_lawful.Goals as goal
 
 pub returns : goal.returns

@@ -1,5 +1,5 @@
 use Rattle.std.proofs.Common.{refl}
-use Rattle.shapes.specs.MirrorsLemmas.{mirror_means}
+use Rattle.shapes.specs.MirrorLaws.{mirror_means}
 use Rattle.shapes.proofs.mirrored.Mirrored.over.Goals as goal
 
 pub returns : goal.returns

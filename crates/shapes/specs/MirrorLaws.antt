@@ -1,20 +1,15 @@
--- The mirror of a lawful tree: it is a lawful tree, and its mirror is the first tree again.
+-- The mirror of a lawful tree is a lawful tree.
 use Rattle.std.specs.Prelude.{◌≡◌, ℕ, zero, suc, ◌+◌, ◌-◌, ◌<◌, ◌≤◌, Some, None, Option}
-use Rattle.std.proofs.Math.Path.{refl, sym, ap, fun_ext}
+use Rattle.std.proofs.Math.Path.{refl, sym, ap}
 use Rattle.std.proofs.Common.{subst, ◌∙◌, inl, inr, ⊎_elim}
 use native.Mathlib.Omega.{arith}
 use Rattle.shapes.specs.declared.axis.Axis.{Axis}
 use Rattle.shapes.specs.declared.axis.Axis.TheVariants.{First, Next, Owner, Previous}
-use Rattle.shapes.specs.Tree.{Tree, Laws, Iff, SameTree, Present, EitherOne, along, back}
+use Rattle.shapes.specs.Tree.{Tree, Laws, Present, EitherOne, along, back}
 use Rattle.shapes.specs.Mirrors.{Leads, LastChild, MirrorOf, walk_end, last_from, last_owner, mirror}
 use Rattle.shapes.specs.Mirrors.Leads.{here, onward}
 use Rattle.shapes.specs.Walks.{option_cases, not_both, absent, walk_leads, leads_back, leads_keeps, one_end}
 use Rattle.shapes.specs.Trees.{axis_ends, end_is, starts_inside, child_first, sibling_later}
-
--- options with the same answers
-same_answers : (o o' : Option ℕ) → ((y : ℕ) → Iff (o ≡ Some y) (o' ≡ Some y)) → o ≡ o'
-same_answers o None h = absent o (λ w. not_both None w.0 refl ((h w.0).0 w.1))
-same_answers o (Some y) h = (h y).1 refl
 
 module _ (t : Tree) (l : Laws t) where
   pub last_inside : (x z : ℕ) → LastChild t x z → z < t.count
@@ -25,7 +20,7 @@ module _ (t : Tree) (l : Laws t) where
   last_not_root x z c =
       leads_keeps t.next (λ y. 0 < y) (λ x y e _. (sibling_later t l x y e).0) c.eldest z c.right (child_first t l x _ c.first).0
 
-  to_eldest : (x z : ℕ) (c : LastChild t x z) → Leads t.previous z c.eldest
+  pub to_eldest : (x z : ℕ) (c : LastChild t x z) → Leads t.previous z c.eldest
   to_eldest x z c = leads_back t.next t.previous (l.reversed Next) c.eldest z c.right
 
   pub one_last : (x z z' : ℕ) → LastChild t x z → LastChild t x z' → z ≡ z'
@@ -215,45 +210,3 @@ module _ (t m : Tree) (l : Laws t) (o : MirrorOf t m) where
 
 pub mirror_laws : (t : Tree) → Laws t → Laws (mirror t)
 mirror_laws t l = laws_of_mirror t (mirror t) l (mirror_means t l)
-
--- A mirror of a mirror is the first tree.
-module _ (t m u : Tree) (l : Laws t) (o : MirrorOf t m) (o' : MirrorOf m u) where
-  -- the last child in the mirror is the first child
-  last_back : (x z : ℕ) → LastChild m x z → t.first x ≡ Some z
-  last_back x z c =
-      let d : LastChild t x c.eldest = (o.first x c.eldest).0 c.first in
-      let r : Leads t.previous c.eldest z = subst (λ f. Leads f c.eldest z) (fun_ext o.next) c.right in
-      let s : d.eldest ≡ z = one_end t.previous c.eldest _ z (to_eldest t l x _ d) (child_first t l x _ d.first).1 r (sym (o.next z) ∙ c.last) in
-      d.first ∙ ap Some s
-
-  first_back : (x z : ℕ) → t.first x ≡ Some z → LastChild m x z
-  first_back x z e =
-      let w : ℕ = walk_end t.next t.count z in
-      let r : Leads t.previous w z = leads_back t.next t.previous (l.reversed Next) z w (walk_leads t.next t.count z) in
-      record {
-        eldest = w;
-        first = (o.first x w).1 (last_of t l x z e);
-        right = subst (λ f. Leads f w z) (sym (fun_ext o.next)) r;
-        last = o.next z ∙ (child_first t l x z e).1;
-      }
-
-  pub mirrored_back : SameTree u t
-  mirrored_back = record { count = o'.count ∙ o.count; maps = maps }
-    where
-      first_same : (x z : ℕ) → Iff (u.first x ≡ Some z) (t.first x ≡ Some z)
-      first_same x z = ((λ e. last_back x z ((o'.first x z).0 e)), (λ e. (o'.first x z).1 (first_back x z e)))
-
-      owner_same : (z x : ℕ) → Iff (u.owner z ≡ Some x) (t.owner z ≡ Some x)
-      owner_same z x = (
-        (λ e. l.reversed First x z (last_back x z ((o'.owner x z).0 e))),
-        (λ e. (o'.owner x z).1 (first_back x z (l.reversed Owner z x e))),
-      )
-
-      maps : (a : Axis) (x : ℕ) → along u a x ≡ along t a x
-      maps First x = same_answers _ _ (first_same x)
-      maps Next x = o'.next x ∙ o.previous x
-      maps Owner x = same_answers _ _ (owner_same x)
-      maps Previous x = o'.previous x ∙ o.next x
-
-pub mirror_twice : (t : Tree) → Laws t → SameTree (mirror (mirror t)) t
-mirror_twice t l = mirrored_back t (mirror t) (mirror (mirror t)) l (mirror_means t l) (mirror_means (mirror t) (mirror_laws t l))

@@ -1,19 +1,14 @@
--- The tables of a depth shape hold the tree of its depths; and that is a proposition, so a struct may hold it as a fact.
+-- The tables of a depth shape hold the tree of its depths.
 use Rattle.std.specs.Prelude.{◌≡◌, ℕ, ◌+◌, ◌-◌, ◌<◌, Bool, true, false, cond, List, length, Some, None, Option, nat_lt, slice_index_or, refl}
 use Rattle.std.proofs.Common.{sym, ap, subst, ◌∙◌, inl, inr, arith}
-use mathlib.Core.HLevel.{Π_prop, ×_prop, hedberg}
-use Rattle.std.proofs.Math.Bridge.{le_prop}
-use Rattle.std.proofs.Math.Decide.{ℕ_discrete}
-use Rattle.std.proofs.Math.Nat.{ℕ_set}
 use Rattle.std.proofs.lemmas.List.{get_or_past}
 use Rattle.std.proofs.lemmas.Bool.{and_from, and_parts, lt-ltb, ltb-true, cond-true, cases_lt}
 use Rattle.shapes.specs.declared.axis.Axis.{Axis}
 use Rattle.shapes.specs.declared.axis.Axis.TheVariants.{First, Next, Owner, Previous}
-use Rattle.shapes.specs.Tree.{Tree, Iff, along}
-use Rattle.shapes.specs.Depths.{depth_at, KeepsRule, LawfulDepths, FirstChild, NextSibling, Neighbour, DepthTree}
+use Rattle.shapes.specs.Tree.{Iff, along}
+use Rattle.shapes.specs.Depths.{depth_at, LawfulDepths, FirstChild, NextSibling, Neighbour, DepthTree}
 use Rattle.shapes.specs.DepthTables.{Tells, deeper, table_tree}
-use Rattle.shapes.specs.DepthLaws.{next_once}
-use Rattle.shapes.specs.DepthSteps.{LeadsBack}
+use Rattle.shapes.proofs.DepthSteps.{LeadsBack, next_once}
 
 -- a test that answers a number
 cond_some : (b : Bool) (n y : ℕ) → cond b (Some n) None ≡ Some y → (b ≡ true) × (n ≡ y)
@@ -79,47 +74,3 @@ module _ (ds : List ℕ) (previouses : List (Option ℕ)) (back : Tells previous
 
   pub previous_of_one : (y z x : ℕ) → slice_index_or previouses y None ≡ Some x → slice_index_or previouses z None ≡ Some x → y ≡ z
   previous_of_one y z x e f = omega (arith, next_once ds x y z ((back y x).0 e) ((back z x).0 f), next_once ds x z y ((back z x).0 f) ((back y x).0 e))
-
-option_discrete : Discrete (Option ℕ)
-option_discrete None None = yes refl
-option_discrete None (Some y) = no (λ e. let z : ◌≡◌ {A = ℕ} 0 1 = cc in omega arith)
-option_discrete (Some x) None = no (λ e. let z : ◌≡◌ {A = ℕ} 0 1 = cc in omega arith)
-option_discrete (Some x) (Some y) = elim (ℕ_discrete x y) [ yes e ↦ yes (ap Some e) | no n ↦ no (λ e. n (cc)) ]
-
-rule_prop : (ds : List ℕ) (x : ℕ) → IsProp (KeepsRule ds x)
-rule_prop ds x p q = λ i. record {
-  root = λ e. ℕ_set _ _ (p.root e) (q.root e) i;
-  other = λ h. le_prop (p.other h) (q.other h) i;
-  rises = λ h. le_prop (p.rises h) (q.rises h) i;
-}
-
-pub lawful_prop : (ds : List ℕ) → IsProp (LawfulDepths ds)
-lawful_prop ds = Π_prop λ x. Π_prop λ h. rule_prop ds x
-
-child_prop : (ds : List ℕ) (x y : ℕ) → IsProp (FirstChild ds x y)
-child_prop ds x y p q = λ i. record {
-  after = ℕ_set _ _ p.after q.after i;
-  node = le_prop p.node q.node i;
-  deeper = ℕ_set _ _ p.deeper q.deeper i;
-}
-
-sibling_prop : (ds : List ℕ) (x y : ℕ) → IsProp (NextSibling ds x y)
-sibling_prop ds x y p q = λ i. record {
-  later = le_prop p.later q.later i;
-  node = le_prop p.node q.node i;
-  level = ℕ_set _ _ p.level q.level i;
-  between = λ k a b. le_prop (p.between k a b) (q.between k a b) i;
-}
-
-neighbour_prop : (ds : List ℕ) (a : Axis) (x y : ℕ) → IsProp (Neighbour ds a x y)
-neighbour_prop ds First x y = child_prop ds x y
-neighbour_prop ds Next x y = sibling_prop ds x y
-neighbour_prop ds Owner x y = child_prop ds y x
-neighbour_prop ds Previous x y = sibling_prop ds y x
-
-pub tree_prop : (ds : List ℕ) (t : Tree) → IsProp (DepthTree ds t)
-tree_prop ds t p q = λ i. record {
-  count = ℕ_set _ _ p.count q.count i;
-  maps = λ a x y.
-      ×_prop (Π_prop λ e. neighbour_prop ds a x y) (Π_prop λ n. hedberg option_discrete (along t a x) (Some y)) (p.maps a x y) (q.maps a x y) i;
-}

@@ -1,19 +1,16 @@
--- A tree whose every node passes the test obeys the laws, and one that obeys them passes.
-use Rattle.std.specs.Prelude.{◌≡◌, ℕ, ◌+◌, ◌<◌, ◌≤◌, Bool, true, cond, not, ◌&&◌, List, [], ◌∷◌, length, is_some, Some, None, Decides, Option, ◌==◌, ◌≢◌, nat_lt, slice_index, refl}
+-- A tree whose every node passes the test obeys the laws.
+use Rattle.std.specs.Prelude.{◌≡◌, ℕ, ◌+◌, ◌<◌, ◌≤◌, true, cond, not, ◌&&◌, List, length, is_some, Some, None, Option, ◌==◌, nat_lt, slice_index, refl}
 use Rattle.std.proofs.Common.{sym, ap, subst, ◌∙◌, inl, inr, ⊎_elim, arith}
 use Rattle.std.proofs.lemmas.List.{get_or_past}
-use Rattle.std.proofs.lemmas.Bool.{and_parts, and_from, both_ways, cases_eq, cases_lt, cond-true, cond-false, eqb-true, eq-eqb, ne_eqb, lt-ltb, ltb-true}
+use Rattle.std.proofs.lemmas.Bool.{and_parts, cases_lt, cond-false, eqb-true, ne_eqb, ltb-true}
 use Rattle.shapes.specs.declared.axis.Axis.{Axis}
 use Rattle.shapes.specs.declared.axis.Axis.TheVariants.{First, Next, Owner, Previous}
 use Rattle.shapes.specs.declared.links.Links.{Links}
-use Rattle.shapes.specs.Certified.{is_node_lem, answered, answered_at, all_answered_lem, rises, both_rise_lem, root_alone_lem, one_entry, entered, certified, Certified, Verdict}
+use Rattle.shapes.specs.Certified.{is_node_lem, answered, answered_at, all_answered_lem, rises, both_rise_lem, root_alone_lem, one_entry, entered, certified, Certified}
 use Rattle.shapes.specs.Levels.{levels_of_lem}
 use Rattle.shapes.specs.Links.{link, no_links, linked_tree}
 use Rattle.shapes.specs.Tree.{Tree, Laws, Countable, EitherOne, Present, along, back}
-use Rattle.shapes.specs.Reaching.{all_levels}
-
-none_some : (o : Option ℕ) (y : ℕ) → o ≡ None → o ≢ Some y
-none_some o y e f = let z : ◌≡◌ {A = ℕ} 0 1 = cc in omega arith
+use Rattle.shapes.specs.Walks.{not_both}
 
 node_is : (o : Option ℕ) (x : ℕ) → is_node_lem o x ≡ true → o ≡ Some x
 node_is None x e = let z : ◌≡◌ {A = ℕ} 0 1 = ap (λ b. cond b 1 0) e in absurd (omega arith)
@@ -25,21 +22,21 @@ absent (Some y) e = let z : ◌≡◌ {A = ℕ} 0 1 = ap (λ b. cond b 1 0) e in
 
 -- what an answered axis leads to
 answered_node : (t : Tree) (a : Axis) (x y : ℕ) (o : Option ℕ) → answered t a x o ≡ true → o ≡ Some y → (y < t.count) × (along t (back a) y ≡ Some x)
-answered_node t a x y None h e = absurd (none_some None y refl e)
+answered_node t a x y None h e = absurd (not_both None y refl e)
 answered_node t a x y (Some z) h e =
     let same : z ≡ y = cc in
     let parts : (nat_lt z t.count ≡ true) × (is_node_lem (along t (back a) z) x ≡ true) = and_parts (nat_lt z t.count) _ h in
     subst (λ w. (w < t.count) × (along t (back a) w ≡ Some x)) same (ltb-true z t.count parts.0, node_is (along t (back a) z) x parts.1)
 
 risen : (level : ℕ → ℕ) (x y : ℕ) (o : Option ℕ) → rises level x o ≡ true → o ≡ Some y → level y ≡ level x + 1
-risen level x y None h e = absurd (none_some None y refl e)
+risen level x y None h e = absurd (not_both None y refl e)
 risen level x y (Some z) h e = let same : z ≡ y = cc in subst (λ w. level w ≡ level x + 1) same (eqb-true _ _ h)
 
 only_one : (o p : Option ℕ) → cond (is_some o) (not (is_some p)) (is_some p) ≡ true → EitherOne (Present o) (Present p)
-only_one None None h = absurd (none_some None 0 refl (ap (λ b. cond b (Some 0) None) h))
-only_one None (Some y) h = inr (λ f. none_some None f.0 refl f.1, (y, refl))
-only_one (Some y) None h = inl ((y, refl), λ f. none_some None f.0 refl f.1)
-only_one (Some y) (Some z) h = absurd (none_some None 0 refl (ap (λ b. cond b (Some 0) None) h))
+only_one None None h = absurd (not_both None 0 refl (ap (λ b. cond b (Some 0) None) h))
+only_one None (Some y) h = inr (λ f. not_both None f.0 refl f.1, (y, refl))
+only_one (Some y) None h = inl ((y, refl), λ f. not_both None f.0 refl f.1)
+only_one (Some y) (Some z) h = absurd (not_both None 0 refl (ap (λ b. cond b (Some 0) None) h))
 
 -- the parts of a test that is passed
 axis_answered : (t : Tree) (a : Axis) (x : ℕ) → all_answered_lem t x ≡ true → answered_at t x a ≡ true
@@ -64,7 +61,7 @@ parts_of t level x h =
 -- from the tests to the laws
 module _ (t : Tree) (level : ℕ → ℕ) (countable : Countable t.count) (outside : (a : Axis) (x : ℕ) → t.count ≤ x → along t a x ≡ None) (passes : (x : ℕ) → x < t.count → certified t level x ≡ true) where
   node : (a : Axis) (x y : ℕ) → along t a x ≡ Some y → x < t.count
-  node a x y e = ⊎_elim (λ h. h) (λ h. absurd (none_some (along t a x) y (outside a x h) e)) (cases_lt x t.count)
+  node a x y e = ⊎_elim (λ h. h) (λ h. absurd (not_both (along t a x) y (outside a x h) e)) (cases_lt x t.count)
 
   answers : (a : Axis) (x y : ℕ) → along t a x ≡ Some y → (y < t.count) × (along t (back a) y ≡ Some x)
   answers a x y e = answered_node t a x y (along t a x) ((parts_of t level x (passes x (node a x y e))).axes a) e
@@ -96,49 +93,7 @@ module _ (t : Tree) (level : ℕ → ℕ) (countable : Countable t.count) (outsi
         level_next = λ x y e. risen level x y (t.next x) (parts_of t level x (passes x (node Next x y e))).next e;
       }
 
--- from the laws to the tests
-is_node_self : (o : Option ℕ) (x : ℕ) → o ≡ Some x → is_node_lem o x ≡ true
-is_node_self o x e = rw e (eq-eqb x x refl)
-
-none_absent : (o : Option ℕ) → o ≡ None → not (is_some o) ≡ true
-none_absent o e = rw e refl
-
-one_only : (o p : Option ℕ) → EitherOne (Present o) (Present p) → cond (is_some o) (not (is_some p)) (is_some p) ≡ true
-one_only None None (inl h) = absurd (none_some None h.0.0 refl h.0.1)
-one_only None None (inr h) = absurd (none_some None h.1.0 refl h.1.1)
-one_only None (Some y) h = refl
-one_only (Some y) None h = refl
-one_only (Some y) (Some z) (inl h) = absurd (h.1 (z, refl))
-one_only (Some y) (Some z) (inr h) = absurd (h.0 (y, refl))
-
-module _ (t : Tree) (laws : Laws t) (level : ℕ → ℕ) (same : (x : ℕ) → x < t.count → level x ≡ laws.level x) where
-  passes_answered : (a : Axis) (x : ℕ) (o : Option ℕ) → along t a x ≡ o → answered t a x o ≡ true
-  passes_answered a x None e = refl
-  passes_answered a x (Some y) e = and_from _ _ (lt-ltb y t.count (laws.inside a x y e)) (is_node_self (along t (back a) y) x (laws.reversed a x y e))
-
-  passes_rises : (a : Axis) (x : ℕ) → x < t.count → ((y : ℕ) → along t a x ≡ Some y → laws.level y ≡ laws.level x + 1) → (o : Option ℕ) → along t a x ≡ o → rises level x o ≡ true
-  passes_rises a x h up None e = refl
-  passes_rises a x h up (Some y) e = eq-eqb _ _ (omega (arith, same x h, same y (laws.inside a x y e), up y e))
-
-  passes_entered : (x : ℕ) → x < t.count → entered t level x ≡ true
-  passes_entered x h =
-      ⊎_elim
-      (λ root. cond-true (x == 0) (root_alone_lem t level) (one_entry t level x) (eq-eqb x 0 root)
-      ∙ and_from _ _ (and_from _ _ (eq-eqb _ _ (omega (arith, same 0 (omega (arith, laws.countable)), laws.level_root))) (none_absent _ laws.root_next)) (and_from _ _ (none_absent _ laws.root_owner) (none_absent _ laws.root_previous)))
-      (λ other. let above : 0 < x = omega arith in
-      cond-false (x == 0) (root_alone_lem t level) (one_entry t level x) (ne_eqb x 0 other)
-      ∙ and_from _ _ (lt-ltb _ _ (omega (arith, same x h, laws.level_other x above h))) (one_only (t.owner x) (t.previous x) (laws.one_way_in x above h)))
-      (cases_eq x 0)
-
-  pub tests_from_laws : (x : ℕ) → x < t.count → certified t level x ≡ true
-  tests_from_laws x h =
-      let at : (a : Axis) → answered_at t x a ≡ true = λ a. passes_answered a x (along t a x) refl in
-      and_from _ _ (and_from _ _ (and_from _ _ (at First) (at Next)) (and_from _ _ (at Owner) (at Previous)))
-      (and_from _ _
-      (and_from _ _ (passes_rises First x h (laws.level_first x) (t.first x) refl) (passes_rises Next x h (laws.level_next x) (t.next x) refl))
-      (passes_entered x h))
-
--- the verdict on a table
+-- a certified table
 module _ (rows : List Links) (countable : Countable (length rows)) where
   nothing_outside : (a : Axis) (x : ℕ) → length rows ≤ x → along (linked_tree rows) a x ≡ None
   nothing_outside First x h = ap (λ r. link r.first) (get_or_past rows x no_links h)
@@ -148,16 +103,3 @@ module _ (rows : List Links) (countable : Countable (length rows)) where
 
   pub lawful_table : Certified rows → Laws (linked_tree rows)
   lawful_table passes = laws_from_tests (linked_tree rows) (λ y. slice_index (levels_of_lem rows) y) countable nothing_outside passes
-
-  pub table_lawful : Laws (linked_tree rows) → Certified rows
-  table_lawful laws = tests_from_laws (linked_tree rows) laws (λ y. slice_index (levels_of_lem rows) y) (all_levels rows countable.1 laws)
-
-pub one_node : Certified (no_links ∷ [])
-unfolding levels_of_lem
-one_node x h = let root : x ≡ 0 = omega arith in rw root refl
-
--- the verdict by a test at levels that are those of the table
-pub verdict : (rows : List Links) (levels : List ℕ) (b : Bool) → Countable (length rows) → levels ≡ levels_of_lem rows → Decides b ((x : ℕ) → x < length rows → certified (linked_tree rows) (λ y. slice_index levels y) x ≡ true) → Verdict rows b
-verdict rows levels b countable e d =
-    let all : Decides b (Certified rows) = subst (λ ls. Decides b ((x : ℕ) → x < length rows → certified (linked_tree rows) (λ y. slice_index ls y) x ≡ true)) e d in
-    (λ yes'. (all.0 yes', lawful_table rows countable (all.0 yes')), λ no' laws. both_ways b no' (all.1 (table_lawful rows countable laws)))

@@ -6,7 +6,21 @@ use Rattle.std.proofs.lemmas.Bool.{cases_eq, cases_lt, cases_order}
 use Rattle.shapes.specs.Tree.{Iff}
 use Rattle.shapes.specs.Depths.{depth_at, LawfulDepths, NextSibling}
 use Rattle.shapes.specs.DepthTables.{Latest, AllLatest, Tells}
-use Rattle.shapes.specs.DepthLaws.{previous_once}
+
+-- a node has one next sibling and one previous one at most
+pub next_once : (ds : List ℕ) (x y z : ℕ) → NextSibling ds x y → NextSibling ds x z → z ≤ y
+next_once ds x y z s t =
+    elim (cases_lt y z) [
+      | inl h ↦ absurd (omega (arith, s.level, t.between y s.later h))
+      | inr h ↦ h
+    ]
+
+pub previous_once : (ds : List ℕ) (x w y : ℕ) → NextSibling ds x y → NextSibling ds w y → w ≤ x
+previous_once ds x w y s t =
+    elim (cases_lt x w) [
+      | inl h ↦ absurd (omega (arith, s.level, t.level, s.between w h t.later))
+      | inr h ↦ h
+    ]
 
 -- the table tells R of the rows below n
 abbrev pub TellsBelow : ℕ → List (Option ℕ) → (ℕ → ℕ → Type 0) → Type 0
