@@ -1,8 +1,8 @@
 -- Number fields: what stands behind the blanks is what is written for the number.
-use Rattle.std.proofs.Common.{◌≡◌, ℕ, zero, suc, ◌+◌, ◌-◌, ◌^◌, ◌<◌, ◌≤◌, true, List, ◌++◌, length, get_or, take, drop, replicate, Some, None, decimal, Option, sym, refl, ap, ◌∙◌, inl, inr, add-zero, arith, rules, MatchOption}
+use Rattle.std.proofs.Common.{◌≡◌, ℕ, zero, suc, ◌-◌, ◌^◌, ◌<◌, ◌≤◌, true, List, ◌++◌, length, get_or, take, drop, replicate, Some, None, decimal, Option, sym, refl, ap, ◌∙◌, inl, inr, add-zero, arith, rules, MatchOption}
 use native.Mathlib.Nat.{pow-le-pow_right}
 use Rattle.std.specs.Str.{all_ascii_digits}
-use Rattle.std.proofs.lemmas.List.{take_more, replicate_more, take-append-drop, length-drop, get_or-drop, get_or_past}
+use Rattle.std.proofs.lemmas.List.{take-append-drop, length-drop, get_or-drop, get_or_past}
 use Rattle.std.proofs.lemmas.Bool.{cases_lt}
 use Rattle.std.proofs.lemmas.Str.Parse.{IsNumeralModel, numerals_by_fold, digits_value_short}
 use Rattle.std.proofs.lemmas.Fmt.{decimal-digits_value, first_decimal, decimal_digit}
@@ -10,10 +10,6 @@ use Rattle.files.specs.Fields.{Shows, number, number_after}
 
 pub own : IsNumeralModel (λ ds. all_ascii_digits ds ≡ true) number
 own = numerals_by_fold _ (search rules) number_after (search rules)
-
--- one blank more
-pub blanks_more : (columns : List ℕ) (i : ℕ) → i < length columns → take i columns ≡ replicate i 32 → get_or columns i 0 ≡ 32 → take (i + 1) columns ≡ replicate (i + 1) 32
-blanks_more columns i l e blank = take_more columns i 0 l ∙ rw (e, blank) (replicate_more i 32)
 
 -- two texts behind blanks are the same where neither begins with one
 same_behind : (k j : ℕ) (xs ys : List ℕ) → (get_or xs 0 0 ≡ 32 → ⊥) → (get_or ys 0 0 ≡ 32 → ⊥) → replicate k 32 ++ xs ≡ replicate j 32 ++ ys → xs ≡ ys

@@ -1,20 +1,33 @@
 //! Depth lists as text: one line for each node, `N` and its depth in five columns.
 ghost use Rattle.std.specs.Prelude.{◌≡◌, ℕ, MatchOption, MatchResult};
-ghost use Rattle.files.specs.DepthLines.{IsLine, ReadsDepths, StopsAt, capped, published};
+ghost use Rattle.files.specs.DepthLines.{IsLine, ReadsDepths, StopsAt, published};
+ghost use Rattle.files.specs.declared.depths.TextFault.TheVariants.{NoMemory};
 
 use crate::field::number_in;
-use std::alloc::Global;
+use std::alloc::{AllocFailed, Global};
+use thiserror::Error;
 
 /// A line's bytes: the letter, the columns and the end.
 const LINE: usize = 7;
 
 /// Why a text is not a depth list.
-#[derive(Clone, Copy, PartialEq, Eq, Debug)]
+#[derive(Clone, Copy, PartialEq, Eq, Debug, Error)]
 pub enum TextFault {
     /// The first line, from 1, that is not as it should be.
+    #[error("line {line} is malformed")]
     Malformed { line: usize },
     /// Want of memory: no fault of the text.
+    #[error("out of memory")]
     NoMemory,
+}
+
+// By hand, since the derive's conversion promises nothing of the fault.
+impl<T: Drop> From<AllocFailed<T>> for TextFault {
+    ghost from_gives = { λ _ fault. fault ≡ NoMemory };
+
+    fn from(_failed: AllocFailed<T>) -> Self {
+        Self::NoMemory
+    }
 }
 
 impl TextFault {
@@ -34,35 +47,20 @@ pub fn read_depths(heap: Global, text: &[u8]) -> Result<Vec<u16>, TextFault>
     ensures { MatchResult result (λ v. ReadsDepths text.now v.items) (λ e. StopsAt text.now e) }
 {
     let mut depths = Vec::new(heap);
-    let lines = text.len().div_ceil(LINE);
-    for i in 0..lines {
-        let start = i * LINE;
-        let end = text.len().min(start + LINE);
-        let Some(depth) = depth_in(&text[start..end]) else {
-            return Err(TextFault::Malformed { line: i + 1 });
-        };
-        let Ok(_) = depths.push(cap(depth)) else {
-            return Err(TextFault::NoMemory);
-        };
+    for (i, line) in text.chunks(LINE).enumerate() {
+        let depth = depth_in(line).ok_or(TextFault::Malformed { line: i + 1 })?;
+        depths.push(u16::try_from(depth).unwrap_or(u16::MAX))?;
     }
     Ok(depths)
 }
 
 /// The depth that a line shows.
+#[tactic(auto, using(crate::proofs::Lines::line_shown))]
 fn depth_in(line: &[u8]) -> Option<u64>
     ensures { MatchOption result ((n : ℕ) → IsLine line.now n → ⊥) (λ n. IsLine line.now n) }
 {
-    if line.len() != LINE {
-        return None;
+    match line {
+        [b'N', columns @ .., b'\n'] if line.len() == LINE => number_in(columns),
+        _ => None,
     }
-    if line[0] != b'N' || line[6] != b'\n' {
-        return None;
-    }
-    number_in(&line[1..6])
-}
-
-fn cap(depth: u64) -> u16
-    ensures { result ≡ capped depth }
-{
-    if depth < 65_535 { depth as u16 } else { 65_535 }
 }

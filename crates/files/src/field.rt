@@ -22,12 +22,7 @@ fn blanks(field: &[u8]) -> usize
     ensures before { take result field.now ≡ replicate result 32 }
     ensures after { result < length field.now → slice_index field.now result ≢ 32 }
 {
-    for (i, b) in field.iter().enumerate() {
-        if *b != b' ' {
-            return i;
-        }
-    }
-    field.len()
+    field.iter().position(|b| *b != b' ').unwrap_or(field.len())
 }
 
 /// The number whose digits these are, with no leading zero but in 0 itself.
@@ -35,13 +30,11 @@ fn plain_number(digits: &[u8]) -> Option<u64>
     requires { length digits.now ≤ 10 }
     ensures { MatchOption result ((n : ℕ) → n < 2 ^ 64 → digits.now ≢ decimal n) (λ n. (n < 10 ^ length digits.now) × (digits.now ≡ decimal n)) }
 {
-    if digits.is_empty() {
-        return None;
+    match digits {
+        [] => None,
+        [b'0', _, ..] => None,
+        _ => number_of(digits),
     }
-    if digits.len() > 1 && digits[0] == b'0' {
-        return None;
-    }
-    number_of(digits)
 }
 
 /// The number that digits write; none where another byte stands among them.
@@ -49,6 +42,7 @@ fn number_of(digits: &[u8]) -> Option<u64>
     requires { length digits.now ≤ 10 }
     ensures { MatchOption result (all_ascii_digits digits.now ≢ true) (λ n. (all_ascii_digits digits.now ≡ true) × (n ≡ number digits.now)) }
 {
+    // A loop: the bound of `n` rests on how many digits came before, which the closure of a fold is not told.
     let mut n = 0u64;
     for b in digits {
         if !b.is_ascii_digit() {

@@ -3,3 +3,5 @@
 
 pub mod depths;
 pub mod field;
+#[cfg(test)]
+mod tests;

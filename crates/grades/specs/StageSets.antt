@@ -1,5 +1,5 @@
 -- The kind of the sets of signal stages, kept as numbers of 32 bits.
-use Rattle.std.specs.Prelude.{ℕ, ◌-◌, ◌/◌, ◌%◌, ◌^◌, Bool, ◌==◌, bit_and, bit_or, count_ones}
+use Rattle.std.specs.Prelude.{◌≡◌, ℕ, ◌-◌, ◌/◌, ◌%◌, ◌^◌, Bool, ◌==◌, bit_and, bit_or, count_ones}
 use Rattle.std.proofs.Common.{lt_of_le_of_lt, sub-le, lit<}
 use Rattle.std.specs.Int.Bits.{and_lt}
 use Rattle.std.proofs.lemmas.Nat.{or_lt}
@@ -13,6 +13,11 @@ digit s n = n / 2 ^ s % 2 == 1
 -- whether the set has the stage
 abbrev pub bit : ℕ → StageSet → Bool
 bit s x = digit s x.stages
+
+-- the set has the number as its bits, and is the only one that has
+pub record IsOfBits (bits : ℕ) (set : StageSet) : Type 0 where
+  pub stages : set.stages ≡ bits
+  pub only : (x : StageSet) → x.stages ≡ bits → set ≡ x
 
 -- a set lies below the sets that include it
 abbrev pub stage_sets : Kind StageSet

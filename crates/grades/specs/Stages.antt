@@ -8,7 +8,7 @@ use Rattle.std.proofs.Math.Dec.{eqb_refl}
 use Rattle.grades.specs.ByStage.{KeptByStage, EqualByStage}
 use Rattle.grades.specs.Kind.{Below, Laws}
 use Rattle.grades.specs.StageSets.{bit, digit, stage_sets}
-use Rattle.grades.specs.YesNo.{yes_no}
+use Rattle.grades.specs.YesNo.{yes_no, yes_no_laws}
 use Rattle.grades.specs.declared.stage_set.StageSet.{StageSet}
 use Rattle.grades.specs.Digits.{digits_tell, digit_past, digit_and, digit_or, digit_turned, ones_rise}
 
@@ -30,9 +30,6 @@ kept_by_stage s h = record {
   lowest = digit_none s;
   highest = digit_turned 32 s 0 (2 ^ 32 - 1) refl h ∙ ap not (digit_none s);
 }
-
-yes_no_laws : Laws yes_no
-yes_no_laws = search rules
 
 -- no lies below yes: the order of yes and no is implication
 absorbed : (a b : Bool) → (a && b) ≡ a → Below yes_no a b

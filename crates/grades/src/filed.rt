@@ -8,6 +8,7 @@ use crate::grade::Grade;
 use crate::stage_set::StageSet;
 
 /// A kind whose grades have numbers of 32 bits, read back exactly.
+// Not `TryFrom` and `Into`: yes/no is `bool`, and only std may write those between `bool` and `u32`.
 pub trait FiledGrade: Grade {
     ghost number: { Self → ℕ };
 
@@ -48,10 +49,10 @@ impl FiledGrade for StageSet {
     ghost numbered = { record { fits = λ x. x.fits; apart = same_bits } };
 
     fn to_number(self) -> u32 {
-        self.bits()
+        self.into()
     }
 
     fn from_number(n: u32) -> Option<StageSet> {
-        Some(StageSet::of_bits(n))
+        Some(n.into())
     }
 }

@@ -1,5 +1,5 @@
 //! The interface of a kind of grade.
-ghost use Rattle.std.specs.Prelude.{◌≡◌};
+ghost use Rattle.std.specs.Prelude.{◌≡◌, ℕ};
 ghost use Rattle.grades.specs.Kind.{Kind, Laws, Says};
 
 /// A kind of grade: a bounded lattice with a turn.
@@ -10,11 +10,17 @@ pub trait Grade: Copy {
     /// The greatest rank of a grade of this kind, at most 64.
     const HEIGHT: u32;
 
+    // `HEIGHT`, as clauses name it.
+    ghost HEIGHT: { ℕ };
+
     ghost kind: { Kind Self };
 
-    /// `HEIGHT`, as a call whose contract can name the meaning.
+    /// `HEIGHT`, as a call.
     fn greatest_rank() -> u32
-        ensures { result ≡ kind.height };
+        ensures { result ≡ kind.height }
+    {
+        Self::HEIGHT
+    }
 
     /// The least grade above both.
     fn join(self, other: Self) -> Self
@@ -37,8 +43,12 @@ pub trait Grade: Copy {
         ensures { result ≡ kind.highest };
 
     /// Whether the two are equal.
+    // Not `==` of a bound, which promises what the type's `eq` answers and not that the two are one grade.
     fn same(self, other: Self) -> bool
         ensures { Says result (self ≡ other) };
 
     ghost laws: { Laws kind };
+
+    // The constant is the height of the meaning.
+    ghost height_of_kind: { HEIGHT ≡ kind.height };
 }

@@ -1,6 +1,6 @@
 //! Yes/no: a thing holds or does not.
-ghost use Rattle.grades.specs.YesNo.{yes_no};
-ghost use Rattle.std.proofs.Common.{rules};
+ghost use Rattle.std.specs.Prelude.{refl};
+ghost use Rattle.grades.specs.YesNo.{yes_no, yes_no_laws};
 
 use crate::grade::Grade;
 
@@ -8,13 +8,13 @@ use crate::grade::Grade;
 impl Grade for bool {
     const HEIGHT: u32 = 1;
 
+    ghost HEIGHT = { yes_no.height };
+
     ghost kind = { yes_no };
 
-    ghost laws = { Prim.search rules };
+    ghost height_of_kind = { refl };
 
-    fn greatest_rank() -> u32 {
-        Self::HEIGHT
-    }
+    ghost laws = { yes_no_laws };
 
     fn join(self, other: bool) -> bool {
         self || other

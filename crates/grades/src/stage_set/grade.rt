@@ -1,4 +1,5 @@
 //! Stage sets as a kind of grade.
+ghost use Rattle.std.specs.Prelude.{refl};
 ghost use Rattle.grades.specs.StageSets.{stage_sets};
 ghost use Rattle.grades.specs.Stages.{stage_set_laws};
 
@@ -9,35 +10,35 @@ use crate::stage_set::StageSet;
 impl Grade for StageSet {
     const HEIGHT: u32 = 32;
 
+    ghost HEIGHT = { stage_sets.height };
+
     ghost kind = { stage_sets };
+
+    ghost height_of_kind = { refl };
 
     ghost laws = { stage_set_laws };
 
-    fn greatest_rank() -> u32 {
-        Self::HEIGHT
-    }
-
     fn join(self, other: StageSet) -> StageSet {
-        StageSet::of_bits(self.stages | other.stages)
+        StageSet::from(self.stages | other.stages)
     }
 
     fn meet(self, other: StageSet) -> StageSet {
-        StageSet::of_bits(self.stages & other.stages)
+        StageSet::from(self.stages & other.stages)
     }
 
     fn turn(self) -> StageSet {
-        StageSet::of_bits(!self.stages)
+        StageSet::from(!self.stages)
     }
 
     fn lowest() -> StageSet {
-        StageSet::of_bits(0)
+        StageSet::from(0)
     }
 
     fn highest() -> StageSet {
-        StageSet::of_bits(u32::MAX)
+        StageSet::from(u32::MAX)
     }
 
     fn same(self, other: StageSet) -> bool {
-        self.stages == other.stages
+        self == other
     }
 }
