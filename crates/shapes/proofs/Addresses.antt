@@ -1,14 +1,14 @@
 -- Every lawful tree has one addressing: the letters, read from the first.
 use Rattle.std.proofs.Common.{◌≡◌, ℕ, ◌+◌, ◌<◌, ◌≤◌, List, [], ◌∷◌, ◌++◌, reverse, Some, sym, ap, ◌∙◌, ⊎_elim, arith}
 use mathlib.Core.List.{reverse-cons, reverse-append, reverse-reverse}
-use Rattle.std.proofs.ByRecursion.{All-push}
+use Rattle.std.proofs.lemmas.List.Elements.{All-push, All-from_recursion, recursion_from_All}
 use Rattle.std.proofs.lemmas.List.{same_from_push}
 use Rattle.std.proofs.lemmas.Bool.{cases_lt}
 use Rattle.std.specs.List.{AllByRecursion}
 use Rattle.shapes.specs.declared.axis.Axis.TheVariants.{First, Next, Owner, Previous}
 use Rattle.shapes.specs.Tree.{Tree, Laws}
 use Rattle.shapes.specs.Addresses.{Addressed, NodeAt, RightOf, SiblingTree, letters, address_of}
-use Rattle.shapes.proofs.Letters.{no_letter, Lettered, lettered, placed, before_next, after_next, ways, root_none, all_counted, apart}
+use Rattle.shapes.proofs.Letters.{Lettered, lettered, placed, before_next, after_next, ways, root_none, all_counted, apart}
 use Rattle.shapes.proofs.Letters.Way.{at_root, child, sibling}
 use Rattle.shapes.specs.Trees.{starts_inside, tree_ind}
 
@@ -21,18 +21,18 @@ from_last v w n e = sym (reverse-reverse v) ∙ ap reverse e ∙ reverse-append 
 
 all_reverse : (P : ℕ → Type 0) (w : List ℕ) → AllByRecursion P w → AllByRecursion P (reverse w)
 all_reverse P [] a = a
-all_reverse P (n ∷ w) a = rw (reverse-cons n w) (All-push P (reverse w) n (all_reverse P w a.1) a.0)
+all_reverse P (n ∷ w) a = rw (reverse-cons n w) (recursion_from_All P _ (All-push P (reverse w) n (All-from_recursion P _ (all_reverse P w a.1)) a.0))
 
 module _ (t : Tree) (l : Laws t) (L : ℕ → List ℕ) (s : Lettered t L) where
   shorter : (x : ℕ) (w : List ℕ) (n : ℕ) → x < t.count → L x ≡ n ∷ reverse w → NodeAt t (λ y. reverse (L y)) w
   shorter x w n h e = ⊎_elim
-      (λ z. absurd (no_letter (L x) _ _ (ap L z ∙ root_none t l L s) e))
+      (λ z. cc (ap L z ∙ root_none t l L s))
       (λ b. let q : L b.above ≡ reverse w = cc b.word in (b.above, b.node, ap reverse q ∙ reverse-reverse w))
       (placed t l L s x h)
 
   lower : (x : ℕ) (w : List ℕ) (n : ℕ) → x < t.count → 1 ≤ n → L x ≡ (n + 1) ∷ reverse w → NodeAt t (λ y. reverse (L y)) (w ++ n ∷ [])
   lower x w n h le e = elim (ways t l L s x h) [
-    | at_root z u ↦ absurd (no_letter (L x) _ _ u e)
+    | at_root z u ↦ cc
     | child p g u ↦ absurd (let q : n + 1 ≡ 1 = cc in omega arith)
     | sibling p m v g c a u ↦
         let k : m + 1 ≡ n + 1 = cc in
@@ -43,14 +43,14 @@ module _ (t : Tree) (l : Laws t) (L : ℕ → List ℕ) (s : Lettered t L) where
 
   first_back : (x y : ℕ) → x < t.count → y < t.count → L y ≡ 1 ∷ L x → t.first x ≡ Some y
   first_back x y h h' e = elim (ways t l L s y h') [
-    | at_root z u ↦ absurd (no_letter (L y) _ _ u e)
+    | at_root z u ↦ cc
     | child p g u ↦ let q : p ≡ x = apart t l L s p x (starts_inside t l First p y g) h (cc) in cc
     | sibling p m v g c a u ↦ absurd (let q : m + 1 ≡ 1 = cc in omega arith)
   ]
 
   next_back : (x y : ℕ) (w : List ℕ) (n : ℕ) → x < t.count → y < t.count → L x ≡ n ∷ w → L y ≡ (n + 1) ∷ w → t.next x ≡ Some y
   next_back x y w n h h' e e' = elim (ways t l L s y h') [
-    | at_root z u ↦ absurd (no_letter (L y) _ _ u e')
+    | at_root z u ↦ cc
     | child p g u ↦ absurd (let q : n + 1 ≡ 1 = cc in let c = rw e at (all_counted t l L s x h) in omega arith)
     | sibling p m v g c a u ↦
         let k : m + 1 ≡ n + 1 = cc in

@@ -1,11 +1,13 @@
--- The steps of the loops that make the tables of siblings.
-use Rattle.std.specs.Prelude.{◌≡◌, ℕ, zero, suc, ◌+◌, ◌-◌, ◌<◌, ◌≤◌, List, [], ◌∷◌, ◌++◌, length, get_or, replicate, Some, None, Option, slice_index, slice_index_or, slice_set, refl}
+-- The steps of the loop that lays out the nodes of a depth list.
+use Rattle.std.specs.Prelude.{◌≡◌, ℕ, zero, suc, ◌+◌, ◌-◌, ◌<◌, ◌≤◌, ◌⊎◌, List, [], ◌∷◌, ◌++◌, length, get_or, Some, None, Option, ◌≢◌, slice_index, slice_set, refl}
 use Rattle.std.proofs.Common.{sym, ap, subst, ◌∙◌, inl, inr, arith}
-use Rattle.std.proofs.lemmas.List.{get_or-set_same, get_or-set_other, get_or_append_left, get_or_push, get_or_past, length_push, get_or-replicate, length-replicate}
-use Rattle.std.proofs.lemmas.Bool.{cases_eq, cases_lt, cases_order}
+use Rattle.std.proofs.lemmas.List.{get_or_default, get_or-set_same, get_or-set_other, get_or_append_left, get_or_push, length-set, length_push}
+use Rattle.std.proofs.lemmas.Option.{none-some}
+use Rattle.std.proofs.lemmas.Bool.{cases_eq, cases_lt}
+use Rattle.shapes.specs.declared.depth.node.DepthNode.{DepthNode}
 use Rattle.shapes.specs.Tree.{Iff}
 use Rattle.shapes.specs.Depths.{depth_at, LawfulDepths, NextSibling}
-use Rattle.shapes.specs.DepthTables.{Latest, AllLatest, Tells}
+use Rattle.shapes.specs.DepthTables.{Latest, AllLatest, no_node, node_at}
 
 -- a node has one next sibling and one previous one at most
 pub next_once : (ds : List ℕ) (x y z : ℕ) → NextSibling ds x y → NextSibling ds x z → z ≤ y
@@ -21,17 +23,6 @@ previous_once ds x w y s t =
       | inl h ↦ absurd (omega (arith, s.level, t.level, s.between w h t.later))
       | inr h ↦ h
     ]
-
--- the table tells R of the rows below n
-abbrev pub TellsBelow : ℕ → List (Option ℕ) → (ℕ → ℕ → Type 0) → Type 0
-TellsBelow n table R = Tells table (λ x y. (x < n) × R x y)
-
--- and here of the values below n
-abbrev pub TellsValues : ℕ → List (Option ℕ) → (ℕ → ℕ → Type 0) → Type 0
-TellsValues n table R = Tells table (λ x y. (y < n) × R x y)
-
-never_some : {P : Type 0} (o : Option ℕ) (y : ℕ) → o ≡ None → o ≡ Some y → P
-never_some o y e f = let z : ◌≡◌ {A = ℕ} 0 1 = cc in absurd (omega arith)
 
 -- a node is at most as deep as its number
 pub depth_bound : (ds : List ℕ) → LawfulDepths ds → (x : ℕ) → x < length ds → depth_at ds x ≤ x
@@ -69,108 +60,118 @@ latest_noted ds l x e table hx is he h pos d le =
 pub latest_more : (ds : List ℕ) → LawfulDepths ds → (x d v : ℕ) (table : List ℕ) → x < length ds → d ≡ depth_at ds x → v ≡ x → d < length table → AllLatest ds x table → AllLatest ds (x + 1) (slice_set table d v)
 latest_more ds l x d v table hx is noted hd h = subst (λ w. AllLatest ds (x + 1) (slice_set table d w)) (sym noted) (latest_noted ds l x d table hx is hd h)
 
--- the latest node of its depth is the previous sibling of a node that is not deeper than the one before
-pub previous_latest : (ds : List ℕ) (x q : ℕ) → x < length ds → Latest ds x (depth_at ds x) q → (p : ℕ) → Iff (Some q ≡ Some p) (NextSibling ds p x)
-previous_latest ds x q hx h p =
-    let s : NextSibling ds q x = record {
-      later = h.before;
-      node = hx;
-      level = sym h.level;
-      between = λ k a b. omega (arith, h.level, h.since k a b);
-    } in (
-      (λ e. let same : q ≡ p = cc in subst (λ j. NextSibling ds j x) same s),
-      (λ t. let same : q ≡ p = omega (arith, previous_once ds p q x t s, previous_once ds q p x s t) in ap Some same),
-    )
+-- the nodes once n is noted as the next of the one to its left
+abbrev pub linked : List DepthNode → ℕ → Option ℕ → List DepthNode
+linked nodes n None = nodes
+linked nodes n (Some left) = slice_set nodes left (record { depth = (node_at nodes left).depth; next = Some n; previous = (node_at nodes left).previous })
 
--- the root and a first child have none
-pub previous_none : (ds : List ℕ) (x : ℕ) → (0 < x → depth_at ds (x - 1) < depth_at ds x) → (p : ℕ) → Iff (None ≡ Some p) (NextSibling ds p x)
-previous_none ds x h p = (
-  (λ e. never_some None p refl e),
-  (λ s. elim (cases_lt p (x - 1)) [
-    | inl lt ↦ absurd (omega (arith, s.level, h (omega (arith, s.later)), s.between (x - 1) lt (omega (arith, s.later))))
-    | inr ge ↦ let e : p ≡ x - 1 = omega (arith, s.later) in absurd (omega (arith, s.level, h (omega (arith, s.later)), ap (depth_at ds) e))
-  ]),
-)
+module _ (nodes : List DepthNode) (n : ℕ) where
+  length-linked : (p : Option ℕ) → length (linked nodes n p) ≡ length nodes
+  length-linked None = refl
+  length-linked (Some left) = length-set nodes left _
 
--- one more row
-pub tells_more : (R : ℕ → ℕ → Type 0) (table : List (Option ℕ)) (n : ℕ) (v : Option ℕ) → length table ≡ n → ((y : ℕ) → Iff (v ≡ Some y) (R n y)) → TellsBelow n table R → TellsBelow (n + 1) (table ++ v ∷ []) R
-tells_more R table n v long here h x y =
-    elim (cases_order x n) [
-      | inl same ↦
-          let e : get_or (table ++ v ∷ []) x None ≡ v = ap (λ j. get_or (table ++ v ∷ []) j None) same ∙ get_or_push table v None n long in (
-            (λ g. (omega arith, subst (λ j. R j y) (sym same) ((here y).0 (sym e ∙ g)))),
-            (λ r. e ∙ (here y).1 (subst (λ j. R j y) same r.1)),
+  -- what is linked keeps all but its next
+  kept : {X : Type 0} (f : DepthNode → X) → ((v : DepthNode) → f (record { depth = v.depth; next = Some n; previous = v.previous }) ≡ f v) → (p : Option ℕ) → ((y : ℕ) → p ≡ Some y → y < length nodes) → (x : ℕ) → f (node_at (linked nodes n p) x) ≡ f (node_at nodes x)
+  kept f same None inside x = refl
+  kept f same (Some left) inside x =
+      elim (cases_eq x left) [
+        | inl e ↦ ap (λ j. f (node_at (linked nodes n (Some left)) j)) e ∙ (ap f (get_or-set_same nodes left _ no_node (inside left refl)) ∙ (same (node_at nodes left) ∙ ap (λ j. f (node_at nodes j)) (sym e)))
+        | inr other ↦ ap f (get_or-set_other nodes left x _ no_node other)
+      ]
+
+  next_linked : (p : Option ℕ) → ((y : ℕ) → p ≡ Some y → y < length nodes) → (x : ℕ) → p ≡ Some x → (node_at (linked nodes n p) x).next ≡ Some n
+  next_linked None inside x e = absurd (none-some x e)
+  next_linked (Some left) inside x e =
+      let same : x ≡ left = cc in
+      ap (λ j. (node_at (linked nodes n (Some left)) j).next) same ∙ ap (λ v. v.next) (get_or-set_same nodes left _ no_node (inside left refl))
+
+  next_kept : (p : Option ℕ) (x : ℕ) → (p ≢ Some x) → (node_at (linked nodes n p) x).next ≡ (node_at nodes x).next
+  next_kept None x d = refl
+  next_kept (Some left) x d = ap (λ v. v.next) (get_or-set_other nodes left x _ no_node (λ e. d (ap Some (sym e))))
+
+-- the first n nodes are laid out, each with its siblings among them
+pub record Laid (ds : List ℕ) (n : ℕ) (nodes : List DepthNode) : Type 0 where
+  pub size : length nodes ≡ n
+  pub depth : (x : ℕ) → x < n → (node_at nodes x).depth ≡ depth_at ds x
+  pub previous : (x y : ℕ) → x < n → Iff ((node_at nodes x).previous ≡ Some y) (NextSibling ds y x)
+  pub next : (x y : ℕ) → x < n → Iff ((node_at nodes x).next ≡ Some y) ((y < n) × NextSibling ds x y)
+
+is_left : (p : Option ℕ) (x : ℕ) → (p ≡ Some x) ⊎ (p ≢ Some x)
+is_left None x = inr (none-some x)
+is_left (Some y) x = elim (cases_eq y x) [ inl e ↦ inl (ap Some e) | inr d ↦ inr (λ e. d (cc)) ]
+
+-- one more node
+module _ (ds : List ℕ) (n : ℕ) (nodes : List DepthNode) (v : DepthNode) (laid : Laid ds n nodes) (is : v.depth ≡ depth_at ds n) (last : v.next ≡ None) (here : (y : ℕ) → Iff (v.previous ≡ Some y) (NextSibling ds y n)) where
+  abbrev more : List DepthNode
+  more = nodes ++ v ∷ []
+
+  old : (x : ℕ) → x < n → node_at more x ≡ node_at nodes x
+  old x h = get_or_append_left nodes (v ∷ []) no_node x (omega (arith, laid.size))
+
+  new : (x : ℕ) → x ≡ n → node_at more x ≡ v
+  new x e = get_or_push nodes v no_node x (laid.size ∙ sym e)
+
+  inside : (y : ℕ) → v.previous ≡ Some y → y < length more
+  inside y e = omega (arith, laid.size, length_push nodes v, ((here y).0 e).later)
+
+  at : (x : ℕ) → x < n + 1 → (x < n) ⊎ (x ≡ n)
+  at x h = elim (cases_lt x n) [ inl lt ↦ inl lt | inr ge ↦ inr (omega arith) ]
+
+  previous_at : (x y : ℕ) → x < n + 1 → Iff ((node_at more x).previous ≡ Some y) (NextSibling ds y x)
+  previous_at x y h =
+      elim (at x h) [
+        | inl lt ↦ subst (λ w. Iff (w.previous ≡ Some y) (NextSibling ds y x)) (sym (old x lt)) (laid.previous x y lt)
+        | inr e ↦ subst (λ w. Iff (w.previous ≡ Some y) (NextSibling ds y x)) (sym (new x e)) (subst (λ j. Iff (v.previous ≡ Some y) (NextSibling ds y j)) (sym e) (here y))
+      ]
+
+  -- what is no left neighbour of n has its next as before
+  next_at : (x y : ℕ) → x < n + 1 → (v.previous ≢ Some x) → Iff ((node_at more x).next ≡ Some y) ((y < n + 1) × NextSibling ds x y)
+  next_at x y h d =
+      elim (at x h) [
+        | inl lt ↦
+            let l = laid.next x y lt in
+            let e = old x lt in (
+              (λ f. let r = l.0 (sym (ap (λ w. w.next) e) ∙ f) in (omega (arith, r.0), r.1)),
+              (λ r. elim (at y r.0) [
+                | inl below ↦ ap (λ w. w.next) e ∙ l.1 (below, r.1)
+                | inr same ↦ absurd (d ((here x).1 (subst (NextSibling ds x) same r.1)))
+              ]),
+            )
+        | inr e ↦ (
+          (λ f. absurd (none-some y (sym (ap (λ w. w.next) (new x e) ∙ last) ∙ f))),
+          (λ r. absurd (omega (arith, r.0, r.1.later))),
+        )
+      ]
+
+  pub laid_more : Laid ds (n + 1) (linked more n v.previous)
+  laid_more = record {
+    size = length-linked more n v.previous ∙ (length_push nodes v ∙ ap (λ k. k + 1) laid.size);
+    depth = λ x h. kept more n (λ w. w.depth) (λ w. refl) v.previous inside x
+        ∙ elim (at x h) [
+          | inl lt ↦ ap (λ w. w.depth) (old x lt) ∙ laid.depth x lt
+          | inr e ↦ ap (λ w. w.depth) (new x e) ∙ (is ∙ ap (depth_at ds) (sym e))
+        ];
+    previous = λ x y h. subst (λ o. Iff (o ≡ Some y) (NextSibling ds y x)) (sym (kept more n (λ w. w.previous) (λ w. refl) v.previous inside x)) (previous_at x y h);
+    next = λ x y h. elim (is_left v.previous x) [
+      | inl e ↦
+          let s : NextSibling ds x n = (here x).0 e in
+          let f = next_linked more n v.previous inside x e in (
+            (λ g. let same : n ≡ y = cc in (omega arith, subst (NextSibling ds x) same s)),
+            (λ r. let same : n ≡ y = omega (arith, next_once ds x n y s r.1, next_once ds x y n r.1 s) in f ∙ ap Some same),
           )
-      | inr (inl lt) ↦
-          let e = get_or_append_left table (v ∷ []) None x (omega arith) in (
-            (λ g. let r = (h x y).0 (sym e ∙ g) in (omega arith, r.1)),
-            (λ r. e ∙ (h x y).1 (lt, r.1)),
-          )
-      | inr (inr gt) ↦
-          let e = get_or_past (table ++ v ∷ []) x None (omega (arith, length_push table v)) in (
-            (λ g. never_some _ y e g),
-            (λ r. absurd (omega (arith, r.0))),
-          )
-    ]
+      | inr d ↦ subst (λ o. Iff (o ≡ Some y) ((y < n + 1) × NextSibling ds x y)) (sym (next_kept more n v.previous x d)) (next_at x y h d)
+    ];
+  }
 
--- all rows
-pub tells_all : (R : ℕ → ℕ → Type 0) (table : List (Option ℕ)) (n : ℕ) → ((x y : ℕ) → R x y → x < n) → TellsBelow n table R → Tells table R
-tells_all R table n inside h x y = ((λ g. ((h x y).0 g).1), (λ r. (h x y).1 (inside x y r, r)))
+  -- the same by the steps of the code, where v has a node to its left
+  pub laid_linked : (pushed : List DepthNode) (left : ℕ) (w : DepthNode) → pushed ≡ more → v.previous ≡ Some left → w ≡ get_or pushed left w → Laid ds (n + 1) (slice_set pushed left (record { depth = w.depth; next = Some n; previous = w.previous }))
+  laid_linked pushed left w e p is =
+      let there : w ≡ node_at more left = is ∙ (ap (λ xs. get_or xs left w) e ∙ get_or_default more left w no_node (inside left p)) in
+      let same : slice_set pushed left (record { depth = w.depth; next = Some n; previous = w.previous }) ≡ linked more n (Some left) =
+      ap (λ xs. slice_set xs left (record { depth = w.depth; next = Some n; previous = w.previous })) e
+      ∙ ap (λ (u : DepthNode). slice_set more left (record { depth = u.depth; next = Some n; previous = u.previous })) there in
+      subst (Laid ds (n + 1)) (ap (linked more n) p ∙ sym same) laid_more
 
-pub tells_none : (R : ℕ → ℕ → Type 0) → TellsBelow 0 [] R
-tells_none R x y = ((λ g. never_some None y refl g), (λ r. absurd (omega (arith, r.0))))
-
--- a table is reversed: what leads back from x
-abbrev pub LeadsBack : List (Option ℕ) → ℕ → ℕ → Type 0
-LeadsBack table x y = slice_index_or table y None ≡ Some x
-
-pub back_none : (table : List (Option ℕ)) (m : ℕ) → TellsValues 0 (replicate m None) (LeadsBack table)
-back_none table m x y = (
-  (λ g. elim (cases_lt x m) [
-    | inl lt ↦ never_some _ y (get_or-replicate m x None None lt) g
-    | inr ge ↦ never_some _ y (get_or_past (replicate m None) x None (omega (arith, length-replicate {A = Option ℕ} m None))) g
-  ]),
-  (λ r. absurd (omega (arith, r.0))),
-)
-
--- the row n has x at it
-pub back_some : (table back : List (Option ℕ)) (n x : ℕ) → ((y z w : ℕ) → slice_index_or table y None ≡ Some w → slice_index_or table z None ≡ Some w → y ≡ z) → x < length back → slice_index_or table n None ≡ Some x → TellsValues n back (LeadsBack table) → TellsValues (n + 1) (slice_set back x (Some n)) (LeadsBack table)
-back_some table back n x once hx is h w y =
-    elim (cases_eq w x) [
-      | inl same ↦
-          let e : get_or (slice_set back x (Some n)) w None ≡ Some n = ap (λ j. get_or (slice_set back x (Some n)) j None) same ∙ get_or-set_same back x (Some n) None hx in (
-            (λ g. let s : y ≡ n = cc in (omega arith, (ap (λ j. get_or table j None) s ∙ is) ∙ ap Some (sym same))),
-            (λ r. e ∙ ap Some (once n y x is (r.1 ∙ ap Some same))),
-          )
-      | inr other ↦
-          let e = get_or-set_other back x w (Some n) None other in (
-            (λ g. let r = (h w y).0 (sym e ∙ g) in (omega (arith, r.0), r.1)),
-            (λ r. elim (cases_eq y n) [
-              | inl s ↦ let same : w ≡ x = let f = ap (λ j. get_or table j None) s in let t = r.1 in cc in absurd (other same)
-              | inr d ↦ e ∙ (h w y).1 (omega (arith, r.0), r.1)
-            ]),
-          )
-    ]
-
--- the row n is empty
-pub back_skip : (table back : List (Option ℕ)) (n : ℕ) → slice_index_or table n None ≡ None → TellsValues n back (LeadsBack table) → TellsValues (n + 1) back (LeadsBack table)
-back_skip table back n is h w y = (
-  (λ g. let r = (h w y).0 g in (omega (arith, r.0), r.1)),
-  (λ r. elim (cases_eq y n) [
-    | inl s ↦ never_some _ w is (ap (λ j. get_or table j None) (sym s) ∙ r.1)
-    | inr d ↦ (h w y).1 (omega (arith, r.0), r.1)
-  ]),
-)
-
--- all rows
-pub back_all : (table back : List (Option ℕ)) (n : ℕ) → length table ≤ n → TellsValues n back (LeadsBack table) → Tells back (LeadsBack table)
-back_all table back n long h w y = (
-  (λ g. ((h w y).0 g).1),
-  (λ r. (h w y).1 (
-    elim (cases_lt y n) [
-      | inl lt ↦ lt
-      | inr ge ↦ never_some _ w (get_or_past table y None (omega arith)) r
-    ],
-    r,
-  )),
-)
+  -- and where it has none
+  pub laid_alone : (pushed : List DepthNode) → pushed ≡ more → v.previous ≡ None → Laid ds (n + 1) pushed
+  laid_alone pushed e p = subst (Laid ds (n + 1)) (ap (linked more n) p ∙ sym e) laid_more

@@ -7,9 +7,6 @@ use Rattle.shapes.specs.Addresses.{raised, letters}
 use Rattle.shapes.specs.Trees.{starts_inside, way_in, tree_ind, level_below, child_first}
 use Rattle.shapes.specs.Walks.{not_both}
 
-pub no_letter : (v w : List ℕ) (n : ℕ) → v ≡ [] → v ≡ n ∷ w → ⊥
-no_letter v w n e f = let z : ◌≡◌ {A = ℕ} 0 1 = cc in omega arith
-
 all_raised : (w : List ℕ) → AllByRecursion (λ n. 1 ≤ n) w → AllByRecursion (λ n. 1 ≤ n) (raised w)
 all_raised [] a = a
 all_raised (n ∷ w) a = (omega arith, a.1)
@@ -129,20 +126,20 @@ module _ (t : Tree) (l : Laws t) (L : ℕ → List ℕ) (s : Lettered t L) where
       root : (y : ℕ) → y < t.count → L 0 ≡ L y → 0 ≡ y
       root y h e = elim (ways y h) [
         | at_root z w ↦ sym z
-        | child p g w ↦ absurd (no_letter (L y) _ _ (sym e ∙ root_none) w)
-        | sibling p m u g c v w ↦ absurd (no_letter (L y) _ _ (sym e ∙ root_none) w)
+        | child p g w ↦ cc root_none
+        | sibling p m u g c v w ↦ cc root_none
       ]
 
       first : (x' x : ℕ) → t.first x' ≡ Some x → ((y : ℕ) → y < t.count → L x' ≡ L y → x' ≡ y) → (y : ℕ) → y < t.count → L x ≡ L y → x ≡ y
       first x' x f ih y h e = let a = s.first x' x f in elim (ways y h) [
-        | at_root z w ↦ absurd (no_letter (L x) _ _ (e ∙ w) a)
+        | at_root z w ↦ cc
         | child p g w ↦ let q : x' ≡ p = ih p (starts_inside t l First p y g) (cc) in cc
         | sibling p m u g c v w ↦ absurd (let q : 1 ≡ m + 1 = cc in omega arith)
       ]
 
       next : (x' x : ℕ) → t.next x' ≡ Some x → ((y : ℕ) → y < t.count → L x' ≡ L y → x' ≡ y) → (y : ℕ) → y < t.count → L x ≡ L y → x ≡ y
       next x' x f ih y h e = let b = before_next x' x f in let a = after_next x' x f in elim (ways y h) [
-        | at_root z w ↦ absurd (no_letter (L x) _ _ (e ∙ w) a)
+        | at_root z w ↦ cc
         | child p g w ↦ absurd (let q : b.position + 1 ≡ 1 = cc in omega (arith, b.counted))
         | sibling p m u g c v w ↦
             let k : b.position + 1 ≡ m + 1 = cc in

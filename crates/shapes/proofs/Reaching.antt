@@ -1,361 +1,342 @@
--- The breadth-first search of a lawful table gives every node its level.
-use Rattle.std.specs.Prelude.{◌≡◌, ℕ, zero, suc, ◌+◌, ◌<◌, ◌≤◌, cond, ◌⊎◌, List, [], ◌∷◌, ◌++◌, length, get_or, replicate, Some, None, count_by, ◌==◌, ◌≢◌, nat_eq, nat_lt, slice_index, slice_index_or, slice_set}
-use Rattle.std.proofs.Math.Path.{refl}
-use Rattle.std.proofs.Common.{sym, ap, ap₂, subst, ◌∙◌, inl, inr, ⊎_elim, add-one, arith}
-use Rattle.std.proofs.lemmas.List.{get_or-set_same, get_or-set_other, get_or_append_left, get_or_push, get_or_past, get_or-replicate, length-set, length_push, length-replicate}
-use Rattle.std.proofs.lemmas.List.Sums.{sum_by-set, sum_by-cons}
-use Rattle.std.proofs.lemmas.Bool.{cond_both, cond-true, cond-false, cases_eq, cases_lt, eqb-true, eqb-false, eq-eqb, ne_eqb, lt-ltb, le-ltb, ltb-true, ltb-false}
-use Rattle.shapes.specs.declared.axis.Axis.TheVariants.{Owner, Previous}
-use Rattle.shapes.specs.declared.links.Links.{Links}
-use Rattle.shapes.specs.Levels.{Reached, untouched, with_node, reach, node_at, level_below, reach_both_lem, visit, visited, levels_of_lem}
-use Rattle.shapes.specs.Links.{link, no_links, linked_tree}
-use Rattle.shapes.specs.Tree.{Laws}
+-- The breadth-first search of a lawful tree gives every node its level.
+use Rattle.std.specs.Prelude.{◌≡◌, ℕ, zero, suc, ◌+◌, ◌-◌, ◌<◌, ◌≤◌, true, false, cond, ◌⊎◌, List, [], ◌∷◌, ◌++◌, length, is_none, is_some, replicate, Some, None, Option, count_by, ◌≢◌, nat_lt, slice_set, refl}
+use Rattle.std.specs.List.{All}
+use Rattle.std.proofs.Common.{sym, ap, subst, ◌∙◌, inl, inr, ⊎_elim, arith}
+use Rattle.std.proofs.lemmas.List.{get_or-set_same, get_or-set_other, get_or_past, get_or-replicate, length-set, length_push, length-replicate, nil_from_length}
+use Rattle.std.proofs.lemmas.List.Elements.{All-nil, All-push, All-weaker, All-head, All-tail}
+use Rattle.std.proofs.lemmas.List.Sums.{sum_by-set, sum_by-cons, count_by-le-length}
+use Rattle.std.proofs.lemmas.Option.{same_Some}
+use Rattle.std.proofs.lemmas.Bool.{and_parts, and_cases, both_ways, cond_both, cases_eq, cases_lt, lt-ltb, ltb-true}
+use Rattle.shapes.specs.declared.axis.Axis.TheVariants.{First, Next}
+use Rattle.shapes.specs.Levels.{Reached, untouched, level_of, is_new, with_node, reach, visit, advance, visited, levels_of_lem}
+use Rattle.shapes.specs.Tree.{Tree, Laws, Present}
+use Rattle.shapes.specs.Trees.{tree_ind}
+use Rattle.shapes.specs.Walks.{not_both}
 
--- whether the search has reached a node
-abbrev Unknown : Reached → ℕ → Type 0
-Unknown s x = slice_index s.levels x ≡ 65535
+-- a node has a level
+abbrev Known : List (Option ℕ) → ℕ → Type 0
+Known levels x = Present (level_of levels x)
 
--- a number that is no node counts as known
-abbrev Known : ℕ → Reached → ℕ → Type 0
-Known n s x = x < n → Unknown s x → ⊥
+-- a node that waits has the level that it waits with
+abbrev Entry : List (Option ℕ) → ℕ × ℕ → Type 0
+Entry levels a = level_of levels a.0 ≡ Some a.1
 
--- x stands in the order at the place i or later
-pub record Pending (s : Reached) (i x : ℕ) : Type 0 where
-  pub place : ℕ
-  pub later : i ≤ place
-  pub within : place < length s.order
-  pub is : node_at s place ≡ x
+-- a number that is no node counts as settled
+abbrev Settled : Tree → List (Option ℕ) → ℕ → Type 0
+Settled t levels x = x < t.count → Known levels x
 
--- what x leads to is known
-pub record Done (rows : List Links) (s : Reached) (x : ℕ) : Type 0 where
-  pub first : Known (length rows) s (get_or rows x no_links).first
-  pub next : Known (length rows) s (get_or rows x no_links).next
+-- what x leads to has a level
+pub record Done (t : Tree) (levels : List (Option ℕ)) (x : ℕ) : Type 0 where
+  pub first : (y : ℕ) → t.first x ≡ Some y → Settled t levels y
+  pub next : (y : ℕ) → t.next x ≡ Some y → Settled t levels y
 
--- how many nodes are not reached
-abbrev unknowns : List ℕ → ℕ
-unknowns xs = count_by (λ v. nat_eq v 65535) xs
+-- a node waits for its visit
+abbrev Waits : List (ℕ × ℕ) → ℕ → Type 0
+Waits [] x = ⊥
+Waits (a ∷ rest) x = (a.0 ≡ x) ⊎ Waits rest x
 
--- what holds of the search before the visit to the place i
-pub record Steady (rows : List Links) (i : ℕ) (s : Reached) : Type 0 where
-  pub size : length s.levels ≡ length rows
-  pub nodes : (k : ℕ) → k < length s.order → node_at s k < length rows
-  pub low : (k : ℕ) → k < length s.order → slice_index s.levels (node_at s k) ≤ k
-  pub tally : length s.order + unknowns s.levels ≡ length rows
-  pub pending : (x : ℕ) → x < length rows → (Unknown s x → ⊥) → Pending s i x ⊎ Done rows s x
+waits_longer : (w : List (ℕ × ℕ)) (a : ℕ × ℕ) (x : ℕ) → Waits w x → Waits (w ++ a ∷ []) x
+waits_longer [] a x h = absurd h
+waits_longer (b ∷ w) a x h = ⊎_elim inl (λ r. inr (waits_longer w a x r)) h
 
--- the levels reached are those of a law-abiding level function
-abbrev TrueLevels : (ℕ → ℕ) → ℕ → Reached → Type 0
-TrueLevels level n s = (x : ℕ) → x < n → (Unknown s x → ⊥) → slice_index s.levels x ≡ level x
+waits_last : (w : List (ℕ × ℕ)) (a : ℕ × ℕ) → Waits (w ++ a ∷ []) a.0
+waits_last [] a = inl refl
+waits_last (b ∷ w) a = inr (waits_last w a)
+
+-- how many nodes have a level
+abbrev pub knowns : List (Option ℕ) → ℕ
+knowns levels = count_by is_some levels
+
+-- what holds of the search at every moment
+pub record Steady (t : Tree) (levels : List (Option ℕ)) (waiting : List (ℕ × ℕ)) : Type 0 where
+  pub size : length levels ≡ t.count
+  pub entries : All (Entry levels) waiting
+  pub low : (x l : ℕ) → level_of levels x ≡ Some l → l < knowns levels
+  pub pending : (x : ℕ) → Known levels x → Waits waiting x ⊎ Done t levels x
+
+-- the levels are those of a law-abiding level function
+abbrev TrueLevels : (ℕ → ℕ) → List (Option ℕ) → Type 0
+TrueLevels level levels = (x l : ℕ) → level_of levels x ≡ Some l → l ≡ level x
+
+-- the test of a node
+none_is : (o : Option ℕ) → is_none o ≡ true → o ≡ None
+none_is None e = refl
+none_is (Some l) e = cc
+
+some_is : (o : Option ℕ) → is_none o ≡ false → Present o
+some_is None e = cc
+some_is (Some l) e = (l, refl)
+
+new_none : (levels : List (Option ℕ)) (x : ℕ) → is_new levels x ≡ true → (x < length levels) × (level_of levels x ≡ None)
+new_none levels x e = let p = and_parts (nat_lt x (length levels)) _ e in (ltb-true _ _ p.0, none_is _ p.1)
+
+old_known : (levels : List (Option ℕ)) (x : ℕ) → is_new levels x ≡ false → x < length levels → Known levels x
+old_known levels x e h =
+    ⊎_elim
+    (λ f. absurd (both_ways _ f (lt-ltb _ _ h)))
+    (λ f. some_is _ f)
+    (and_cases (nat_lt x (length levels)) _ e)
 
 -- reaching a node adds it, or leaves all as it is
-reach_cases : (P : Reached → Type 0) (level y : ℕ) (s : Reached) → (Unknown s y → P (with_node level y s)) → ((Unknown s y → ⊥) → P s) → P (reach level y s)
-reach_cases P level y s fresh old = cond_both (slice_index s.levels y == 65535) (with_node level y s) s P (λ e. fresh (eqb-true _ _ e)) (λ e. old (eqb-false _ _ e))
+reach_cases : (P : Reached → Type 0) (level : ℕ) (o : Option ℕ) (s : Reached) → ((y : ℕ) → o ≡ Some y → y < length s.levels → level_of s.levels y ≡ None → P (with_node level y s)) → (((y : ℕ) → o ≡ Some y → y < length s.levels → Known s.levels y) → P s) → P (reach level o s)
+reach_cases P level None s fresh old = old (λ y e. cc)
+reach_cases P level (Some x) s fresh old =
+    cond_both (is_new s.levels x) (with_node level x s) s P
+    (λ e. let n = new_none s.levels x e in fresh x refl n.0 n.1)
+    (λ e. old (λ y f h. let g : x ≡ y = cc in subst (Known s.levels) g (old_known s.levels x e (omega arith))))
 
-pub unknown_inside : (xs : List ℕ) (y : ℕ) → slice_index xs y ≡ 65535 → y < length xs
-unknown_inside xs y e = ⊎_elim (λ h. h) (λ h. absurd (omega (arith, get_or_past xs y 0 h))) (cases_lt y (length xs))
+none_yet : (n x : ℕ) → level_of (replicate n None) x ≡ None
+none_yet n x = ⊎_elim (get_or-replicate n x None None) (λ le. get_or_past (replicate n None) x None (omega (arith, length-replicate {A = Option ℕ} n None))) (cases_lt x n)
 
-one_known : (xs : List ℕ) (y v : ℕ) → slice_index xs y ≡ 65535 → (v ≢ 65535) → unknowns (slice_set xs y v) + 1 ≡ unknowns xs
-one_known xs y v e other =
-    omega (
-      arith,
-      sum_by-set (λ x. cond (x == 65535) 1 0) xs y v 0 (unknown_inside xs y e),
-      cond-true {A = ℕ} (slice_index xs y == 65535) 1 0 (eq-eqb _ _ e),
-      cond-false {A = ℕ} (v == 65535) 1 0 (ne_eqb _ _ other),
-    )
+knowns_none : (n : ℕ) → knowns (replicate n None) ≡ 0
+knowns_none zero = refl
+knowns_none (suc n) = omega (arith, sum_by-cons (λ (o : Option ℕ). cond (is_some o) 1 0) None (replicate n None), knowns_none n)
 
-all_unknown : (n : ℕ) → unknowns (replicate n 65535) ≡ n
-all_unknown zero = refl
-all_unknown (suc n) = omega (arith, sum_by-cons (λ x. cond (x == 65535) 1 0) 65535 (replicate n 65535), all_unknown n)
+-- a node that had no level is added, at a level no higher than there are nodes with one
+module _ (levels : List (Option ℕ)) (level y : ℕ) (inside : y < length levels) (fresh : level_of levels y ≡ None) where
+  abbrev added : List (Option ℕ)
+  added = slice_set levels y (Some level)
 
--- a place of a list with one more at its end
-places_push : (xs : List ℕ) (y k : ℕ) → k < length (xs ++ y ∷ []) → ((k < length xs) × (slice_index (xs ++ y ∷ []) k ≡ slice_index xs k)) ⊎ ((k ≡ length xs) × (slice_index (xs ++ y ∷ []) k ≡ y))
-places_push xs y k h =
-    ⊎_elim
-    (λ old. inl (old, get_or_append_left xs (y ∷ []) 0 k old))
-    (λ new. let e : k ≡ length xs = omega (arith, length_push xs y) in inr (e, get_or_push xs y 0 k (sym e)))
-    (cases_lt k (length xs))
+  here : level_of added y ≡ Some level
+  here = get_or-set_same levels y (Some level) None inside
 
--- a node that was not reached is added, at a level no higher than its place
-module _ (rows : List Links) (most : length rows ≤ 2048) (i level y : ℕ) (s : Reached) (steady : Steady rows i s) (early : i ≤ length s.order) (low : level ≤ length s.order) (fresh : Unknown s y) where
-  few : length s.order ≤ 2048
-  few = omega (arith, steady.tally)
+  elsewhere : (x : ℕ) → (x ≢ y) → level_of added x ≡ level_of levels x
+  elsewhere x other = get_or-set_other levels y x (Some level) None other
 
-  inside : y < length s.levels
-  inside = unknown_inside s.levels y fresh
-
-  level_here : get_or (slice_set s.levels y level) y 0 ≡ level
-  level_here = get_or-set_same s.levels y level 0 inside
-
-  level_elsewhere : (x : ℕ) → (x ≢ y) → slice_index (slice_set s.levels y level) x ≡ slice_index s.levels x
-  level_elsewhere x other = get_or-set_other s.levels y x level 0 other
-
-  added_keeps : (x : ℕ) → (Unknown s x → ⊥) → Unknown (with_node level y s) x → ⊥
-  added_keeps x known e =
+  keeps : (x l : ℕ) → level_of levels x ≡ Some l → level_of added x ≡ Some l
+  keeps x l e =
       ⊎_elim
-      (λ same. omega (arith, few, level_here, ap (λ z. slice_index (slice_set s.levels y level) z) same))
-      (λ other. known (sym (level_elsewhere x other) ∙ e))
+      (λ same. absurd (not_both (level_of levels y) l fresh (ap (level_of levels) (sym same) ∙ e)))
+      (λ other. elsewhere x other ∙ e)
       (cases_eq x y)
 
-  node_known : (k : ℕ) → k < length s.order → node_at s k ≢ y
-  node_known k h e = omega (arith, few, steady.low k h, ap (λ z. slice_index s.levels z) e)
+  more : knowns added ≡ knowns levels + 1
+  more = omega (arith, sum_by-set (λ (o : Option ℕ). cond (is_some o) 1 0) levels y (Some level) None inside, ap {B = ℕ} (λ (o : Option ℕ). cond (is_some o) 1 0) fresh)
 
-  done_added : (x : ℕ) → Done rows s x → Done rows (with_node level y s) x
-  done_added x d = record {
-    first = λ h e. added_keeps (get_or rows x no_links).first (d.first h) e;
-    next = λ h e. added_keeps (get_or rows x no_links).next (d.next h) e;
-  }
-
-  pending_added : (x : ℕ) → Pending s i x → Pending (with_node level y s) i x
-  pending_added x p = record {
-    place = p.place;
-    later = p.later;
-    within = omega (arith, length_push s.order y, p.within);
-    is = get_or_append_left s.order (y ∷ []) 0 p.place p.within ∙ p.is;
-  }
-
-  pub steady_added : Steady rows i (with_node level y s)
-  steady_added = record {
-    size = length-set s.levels y level ∙ steady.size;
-    nodes = λ k h. ⊎_elim
-        (λ old. subst (λ z. z < length rows) (sym old.1) (steady.nodes k old.0))
-        (λ new. omega (arith, new.1, inside, steady.size))
-        (places_push s.order y k h);
-    low = λ k h. ⊎_elim
-        (λ old. subst (λ z. slice_index (slice_set s.levels y level) z ≤ k) (sym old.1) (omega (arith, level_elsewhere (node_at s k) (node_known k old.0), steady.low k old.0)))
-        (λ new. subst (λ z. slice_index (slice_set s.levels y level) z ≤ k) (sym new.1) (omega (arith, level_here, new.0)))
-        (places_push s.order y k h);
-    tally = omega (arith, length_push s.order y, one_known s.levels y level fresh (λ e. omega (arith, few)), steady.tally);
-    pending = λ x h known. ⊎_elim
-        (λ same. inl (record { place = length s.order; later = early; within = omega (arith, length_push s.order y); is = get_or_push s.order y 0 (length s.order) refl ∙ sym same }))
+  steady_added : (t : Tree) (w : List (ℕ × ℕ)) → Steady t levels w → level ≤ knowns levels → Steady t added (w ++ (y, level) ∷ [])
+  steady_added t w steady low = record {
+    size = length-set levels y (Some level) ∙ steady.size;
+    entries = All-push (Entry added) w (y, level) (All-weaker (Entry levels) (Entry added) (λ a e. keeps a.0 a.1 e) w steady.entries) here;
+    low = λ x l e. ⊎_elim
+        (λ same. let f : l ≡ level = same_Some l level (sym e ∙ (ap (level_of added) same ∙ here)) in omega (arith, more))
+        (λ other. omega (arith, more, steady.low x l (sym (elsewhere x other) ∙ e)))
+        (cases_eq x y);
+    pending = λ x known. ⊎_elim
+        (λ same. inl (subst (Waits (w ++ (y, level) ∷ [])) (sym same) (waits_last w (y, level))))
         (λ other. ⊎_elim
-        (λ p. inl (pending_added x p))
-        (λ d. inr (done_added x d))
-        (steady.pending x h (λ e. known (level_elsewhere x other ∙ e))))
+        (λ p. inl (waits_longer w (y, level) x p))
+        (λ d. inr (record { first = λ z e h. let k = d.first z e h in (k.0, keeps z k.0 k.1); next = λ z e h. let k = d.next z e h in (k.0, keeps z k.0 k.1) }))
+        (steady.pending x (known.0, sym (elsewhere x other) ∙ known.1)))
         (cases_eq x y);
   }
 
-  pub true_added : (true_level : ℕ → ℕ) → true_level y ≡ level → TrueLevels true_level (length rows) s → TrueLevels true_level (length rows) (with_node level y s)
-  true_added true_level here known_true x h known =
+  true_added : (true_level : ℕ → ℕ) → true_level y ≡ level → TrueLevels true_level levels → TrueLevels true_level added
+  true_added true_level is known x l e =
       ⊎_elim
-      (λ same. ap (λ z. slice_index (slice_set s.levels y level) z) same ∙ (level_here ∙ (sym here ∙ ap true_level (sym same))))
-      (λ other. level_elsewhere x other ∙ known_true x h (λ e. known (level_elsewhere x other ∙ e)))
+      (λ same. let f : l ≡ level = same_Some l level (sym e ∙ (ap (level_of added) same ∙ here)) in omega (arith, ap true_level same))
+      (λ other. known x l (sym (elsewhere x other) ∙ e))
       (cases_eq x y)
 
--- reaching a node
-module _ (rows : List Links) (most : length rows ≤ 2048) (i level y : ℕ) (s : Reached) (steady : Steady rows i s) (early : i ≤ length s.order) (low : level ≤ length s.order) where
-  pub reach_steady : Steady rows i (reach level y s)
-  reach_steady = reach_cases (Steady rows i) level y s (steady_added rows most i level y s steady early low) (λ _. steady)
+-- reaching what a node may lead to
+module _ (level : ℕ) (o : Option ℕ) (s : Reached) where
+  reach_keeps : (x l : ℕ) → level_of s.levels x ≡ Some l → level_of (reach level o s).levels x ≡ Some l
+  reach_keeps x l e = reach_cases (λ s'. level_of s'.levels x ≡ Some l) level o s (λ y _ inside fresh. keeps s.levels level y inside fresh x l e) (λ _. e)
 
-  pub reach_true : (true_level : ℕ → ℕ) → (y < length rows → true_level y ≡ level) → TrueLevels true_level (length rows) s → TrueLevels true_level (length rows) (reach level y s)
-  reach_true true_level here known =
-      reach_cases (TrueLevels true_level (length rows)) level y s
-      (λ fresh. true_added rows most i level y s steady early low fresh true_level (here (omega (arith, unknown_inside s.levels y fresh, steady.size))) known)
+  reach_known : (t : Tree) → length s.levels ≡ t.count → (y : ℕ) → o ≡ Some y → Settled t (reach level o s).levels y
+  reach_known t size y e h =
+      reach_cases (λ s'. Known s'.levels y) level o s
+      (λ z f inside fresh. let g : z ≡ y = cc in (level, ap (level_of (slice_set s.levels z (Some level))) (sym g) ∙ here s.levels level z inside fresh))
+      (λ old. old y e (omega arith))
+
+  reach_longer : length (reach level o s).levels ≡ length s.levels
+  reach_longer = reach_cases (λ s'. length s'.levels ≡ length s.levels) level o s (λ y _ _ _. length-set s.levels y (Some level)) (λ _. refl)
+
+  reach_more : knowns s.levels ≤ knowns (reach level o s).levels
+  reach_more = reach_cases (λ s'. knowns s.levels ≤ knowns s'.levels) level o s (λ y _ inside fresh. omega (arith, more s.levels level y inside fresh)) (λ _. omega arith)
+
+  -- each node that gets a level waits
+  reach_tally : length (reach level o s).waiting + knowns s.levels ≡ length s.waiting + knowns (reach level o s).levels
+  reach_tally =
+      reach_cases (λ s'. length s'.waiting + knowns s.levels ≡ length s.waiting + knowns s'.levels) level o s
+      (λ y _ inside fresh. omega (arith, more s.levels level y inside fresh, length_push s.waiting (y, level)))
+      (λ _. refl)
+
+  -- the node under visit counts as waiting
+  reach_steady : (t : Tree) (a : ℕ × ℕ) → Steady t s.levels (a ∷ s.waiting) → level ≤ knowns s.levels → Steady t (reach level o s).levels (a ∷ (reach level o s).waiting)
+  reach_steady t a steady low =
+      reach_cases (λ s'. Steady t s'.levels (a ∷ s'.waiting)) level o s
+      (λ y _ inside fresh. steady_added s.levels level y inside fresh t (a ∷ s.waiting) steady low)
+      (λ _. steady)
+
+  reach_true : (true_level : ℕ → ℕ) → ((y : ℕ) → o ≡ Some y → true_level y ≡ level) → TrueLevels true_level s.levels → TrueLevels true_level (reach level o s).levels
+  reach_true true_level is known =
+      reach_cases (λ s'. TrueLevels true_level s'.levels) level o s
+      (λ y e inside fresh. true_added s.levels level y inside fresh true_level (is y e) known)
       (λ _. known)
 
-  pub reach_known : Known (length rows) (reach level y s) y
-  reach_known =
-      reach_cases (λ s'. Known (length rows) s' y) level y s
-      (λ fresh _ e. omega (arith, steady.tally, level_here rows most i level y s steady early low fresh))
-      (λ known _. known)
-
-  pub reach_keeps : (x : ℕ) → Known (length rows) s x → Known (length rows) (reach level y s) x
-  reach_keeps x known = reach_cases (λ s'. Known (length rows) s' x) level y s (λ fresh h. added_keeps rows most i level y s steady early low fresh x (known h)) (λ _. known)
-
-  pub reach_longer : length s.order ≤ length (reach level y s).order
-  reach_longer = reach_cases (λ s'. length s.order ≤ length s'.order) level y s (λ _. omega (arith, length_push s.order y)) (λ _. omega arith)
-
-  pub reach_order : (k : ℕ) → k < length s.order → node_at (reach level y s) k ≡ node_at s k
-  reach_order k h = reach_cases (λ s'. node_at s' k ≡ node_at s k) level y s (λ _. get_or_append_left s.order (y ∷ []) 0 k h) (λ _. refl)
-
--- links that are nodes
-pub link_node : (y : ℕ) → y < 65535 → link y ≡ Some y
-link_node y h = cond-false (y == 65535) None (Some y) (ne_eqb y 65535 (λ e. omega arith))
-
-pub link_is : (y x : ℕ) → link y ≡ Some x → y ≡ x
-link_is y x e =
-    ⊎_elim
-    (λ same. let z : ◌≡◌ {A = ℕ} 0 1 = cc (cond-true (y == 65535) None (Some y) (eq-eqb y 65535 same)) in absurd (omega arith))
-    (λ other. cc (cond-false (y == 65535) None (Some y) (ne_eqb y 65535 other)))
-    (cases_eq y 65535)
-
--- the visit to a place of the order
-module _ (rows : List Links) (most : length rows ≤ 2048) (i : ℕ) (s : Reached) (steady : Steady rows i s) (here : i < length s.order) where
-  abbrev row : Links
-  row = slice_index_or rows (node_at s i) no_links
-
-  abbrev level : ℕ
-  level = level_below s i
-
+-- a visit
+module _ (t : Tree) (x level : ℕ) (s : Reached) where
   abbrev once : Reached
-  once = reach level row.first s
+  once = reach (level + 1) (t.first x) s
 
   abbrev twice : Reached
-  twice = reach_both_lem level row s
+  twice = visit t x level s
 
-  low_here : level ≤ length s.order
-  low_here = omega (arith, steady.low i here)
+  visit_keeps : (z l : ℕ) → level_of s.levels z ≡ Some l → level_of twice.levels z ≡ Some l
+  visit_keeps z l e = reach_keeps (level + 1) (t.next x) once z l (reach_keeps (level + 1) (t.first x) s z l e)
 
-  longer : length s.order ≤ length once.order
-  longer = reach_longer rows most i level row.first s steady (omega arith) low_here
+  -- the code's measure falls: nodes without a level, and nodes that wait
+  pub visit_tally : length twice.waiting + knowns s.levels ≡ length s.waiting + knowns twice.levels
+  visit_tally = omega (arith, reach_tally (level + 1) (t.first x) s, reach_tally (level + 1) (t.next x) once)
 
-  early_once : i ≤ length once.order
-  early_once = omega (arith, longer)
+  pub visit_longer : length twice.levels ≡ length s.levels
+  visit_longer = reach_longer (level + 1) (t.next x) once ∙ reach_longer (level + 1) (t.first x) s
 
-  low_once : level ≤ length once.order
-  low_once = omega (arith, longer, low_here)
+  visit_true : (true_level : ℕ → ℕ) → ((y : ℕ) → t.first x ≡ Some y → true_level y ≡ level + 1) → ((y : ℕ) → t.next x ≡ Some y → true_level y ≡ level + 1) → TrueLevels true_level s.levels → TrueLevels true_level twice.levels
+  visit_true true_level first next known = reach_true (level + 1) (t.next x) once true_level next (reach_true (level + 1) (t.first x) s true_level first known)
 
-  once_steady : Steady rows i once
-  once_steady = reach_steady rows most i level row.first s steady (omega arith) low_here
+  visit_steady : Steady t s.levels ((x, level) ∷ s.waiting) → Steady t twice.levels twice.waiting
+  visit_steady steady =
+      let low : level < knowns s.levels = steady.low x level (All-head (Entry s.levels) (x, level) s.waiting steady.entries) in
+      let first : Steady t once.levels ((x, level) ∷ once.waiting) = reach_steady (level + 1) (t.first x) s t (x, level) steady (omega arith) in
+      let last : Steady t twice.levels ((x, level) ∷ twice.waiting) =
+      reach_steady (level + 1) (t.next x) once t (x, level) first (omega (arith, reach_more (level + 1) (t.first x) s)) in
+      let done : Done t twice.levels x = record {
+        first = λ y e h. let k = reach_known (level + 1) (t.first x) s t steady.size y e h in (k.0, reach_keeps (level + 1) (t.next x) once y k.0 k.1);
+        next = reach_known (level + 1) (t.next x) once t first.size;
+      } in record {
+        size = last.size;
+        entries = All-tail (Entry twice.levels) (x, level) twice.waiting last.entries;
+        low = last.low;
+        pending = λ z known. ⊎_elim
+            (λ w. ⊎_elim (λ same. inr (subst (Done t twice.levels) same done)) inl w)
+            inr
+            (last.pending z known);
+      }
 
-  twice_steady : Steady rows i twice
-  twice_steady = reach_steady rows most i level row.next once once_steady early_once low_once
+-- the visit to the node that waits longest, if one waits
+module _ (t : Tree) where
+  advance_steady : (levels : List (Option ℕ)) (w : List (ℕ × ℕ)) → Steady t levels w → Steady t (advance t levels w).levels (advance t levels w).waiting
+  advance_steady levels [] steady = steady
+  advance_steady levels (a ∷ rest) steady = visit_steady t a.0 a.1 (record { levels = levels; waiting = rest }) steady
 
-  -- more is known, and the place holds the same node
-  both_keep : (x : ℕ) → Known (length rows) s x → Known (length rows) twice x
-  both_keep x known =
-      reach_keeps rows most i level row.next once once_steady early_once low_once x
-      (reach_keeps rows most i level row.first s steady (omega arith) low_here x known)
+  advance_keeps : (levels : List (Option ℕ)) (w : List (ℕ × ℕ)) (x l : ℕ) → level_of levels x ≡ Some l → level_of (advance t levels w).levels x ≡ Some l
+  advance_keeps levels [] x l e = e
+  advance_keeps levels (a ∷ rest) x l e = visit_keeps t a.0 a.1 (record { levels = levels; waiting = rest }) x l e
 
-  same_node : node_at twice i ≡ node_at s i
-  same_node =
-      reach_order rows most i level row.next once once_steady early_once low_once i (omega (arith, longer))
-      ∙ reach_order rows most i level row.first s steady (omega arith) low_here i here
+  -- after i visits as many nodes with a level no longer wait, unless none waits
+  advance_tally : (i : ℕ) (levels : List (Option ℕ)) (w : List (ℕ × ℕ)) → (w ≡ []) ⊎ (i + length w ≡ knowns levels) → ((advance t levels w).waiting ≡ []) ⊎ (suc i + length (advance t levels w).waiting ≡ knowns (advance t levels w).levels)
+  advance_tally i levels [] h = inl refl
+  advance_tally i levels (a ∷ rest) h =
+      ⊎_elim
+      (λ e. cc)
+      (λ e. inr (omega (arith, visit_tally t a.0 a.1 (record { levels = levels; waiting = rest }))))
+      h
 
-  done_here : Done rows twice (node_at s i)
-  done_here = record {
-    first = reach_keeps rows most i level row.next once once_steady early_once low_once row.first (reach_known rows most i level row.first s steady (omega arith) low_here);
-    next = reach_known rows most i level row.next once once_steady early_once low_once;
-  }
+  visited_steady : (i : ℕ) → Steady t (visited t i).levels (visited t i).waiting
+  visited_steady zero =
+      reach_cases (λ s'. Steady t s'.levels s'.waiting) 0 (Some 0) (untouched t.count)
+      (λ y _ inside fresh. steady_added (replicate t.count None) 0 y inside fresh t [] start (omega arith))
+      (λ _. start)
+    where
+      start : Steady t (replicate t.count None) []
+      start = record {
+        size = length-replicate t.count None;
+        entries = All-nil (Entry (replicate t.count None));
+        low = λ x l e. absurd (not_both _ l (none_yet t.count x) e);
+        pending = λ x known. absurd (not_both _ known.0 (none_yet t.count x) known.1);
+      }
+  visited_steady (suc i) = advance_steady (visited t i).levels (visited t i).waiting (visited_steady i)
 
-  both_steady : Steady rows (suc i) twice
-  both_steady = record {
-    size = twice_steady.size;
-    nodes = twice_steady.nodes;
-    low = twice_steady.low;
-    tally = twice_steady.tally;
-    pending = λ x h known. ⊎_elim
-        (λ p. ⊎_elim
-        (λ same. inr (subst (Done rows twice) (sym same_node ∙ (ap (λ k. node_at twice k) (sym same) ∙ p.is)) done_here))
-        (λ other. inl (record { place = p.place; later = omega (arith, p.later); within = p.within; is = p.is }))
-        (cases_eq p.place i))
-        inr
-        (twice_steady.pending x h known);
-  }
+  visited_tally : (i : ℕ) → ((visited t i).waiting ≡ []) ⊎ (i + length (visited t i).waiting ≡ knowns (visited t i).levels)
+  visited_tally zero = inr (omega (arith, reach_tally 0 (Some 0) (untouched t.count), knowns_none t.count))
+  visited_tally (suc i) = advance_tally i (visited t i).levels (visited t i).waiting (visited_tally i)
 
-  both_true : (laws : Laws (linked_tree rows)) → TrueLevels laws.level (length rows) s → TrueLevels laws.level (length rows) twice
-  both_true laws known =
-      let now_level : get_or s.levels (node_at s i) 0 ≡ laws.level (node_at s i) = known (node_at s i) (steady.nodes i here) (λ e. omega (arith, steady.low i here, steady.tally)) in
-      reach_true rows most i level row.next once once_steady early_once low_once laws.level
-      (λ h. omega (arith, now_level, laws.level_next (node_at s i) row.next (link_node row.next (omega arith))))
-      (reach_true rows most i level row.first s steady (omega arith) low_here laws.level
-      (λ h. omega (arith, now_level, laws.level_first (node_at s i) row.first (link_node row.first (omega arith))))
-      known)
+  -- after as many visits as there are nodes none waits
+  none_last : (visited t t.count).waiting ≡ []
+  none_last =
+      ⊎_elim
+      (λ e. e)
+      (λ e. nil_from_length _ (omega (arith, (visited_steady t.count).size, count_by-le-length is_some (visited t t.count).levels)))
+      (visited_tally t.count)
 
-pub visit_here : (rows : List Links) (i : ℕ) (s : Reached) → i < length s.order → visit rows i s ≡ reach_both_lem (level_below s i) (slice_index_or rows (node_at s i) no_links) s
-visit_here rows i s h = cond-true (nat_lt i (length s.order)) _ s (lt-ltb _ _ h)
+  -- where none waits all stays as it is
+  advance_none : (levels : List (Option ℕ)) (w : List (ℕ × ℕ)) → w ≡ [] → ((advance t levels w).levels ≡ levels) × ((advance t levels w).waiting ≡ [])
+  advance_none levels [] e = (refl, refl)
+  advance_none levels (a ∷ rest) e = cc
 
--- the same, by the steps of the code
-pub visit_steps : (rows : List Links) (i : ℕ) (s s' : Reached) (node level : ℕ) (row : Links) → i < length s.order → node ≡ node_at s i → level ≡ slice_index s.levels node → row ≡ slice_index_or rows node no_links → s' ≡ reach_both_lem (level + 1) row s → s' ≡ visit rows i s
-visit_steps rows i s s' node above links here node_is level_is row_is both =
-    both
-    ∙ (ap₂ (λ l r. reach_both_lem l r s) (ap (λ l. l + 1) (level_is ∙ ap (λ x. slice_index s.levels x) node_is)) (row_is ∙ ap (λ x. get_or rows x no_links) node_is)
-    ∙ sym (visit_here rows i s here))
+  stays : (k i : ℕ) → (visited t i).waiting ≡ [] → ((visited t (k + i)).levels ≡ (visited t i).levels) × ((visited t (k + i)).waiting ≡ [])
+  stays zero i e = let s : 0 + i ≡ i = omega arith in (ap (λ j. (visited t j).levels) s, ap (λ j. (visited t j).waiting) s ∙ e)
+  stays (suc k) i e =
+      let s : suc k + i ≡ suc (k + i) = omega arith in
+      let before = stays k i e in
+      let after = advance_none (visited t (k + i)).levels (visited t (k + i)).waiting before.1 in
+      (ap (λ j. (visited t j).levels) s ∙ (after.0 ∙ before.0), ap (λ j. (visited t j).waiting) s ∙ after.1)
 
-pub visit_past : (rows : List Links) (i : ℕ) (s : Reached) → length s.order ≤ i → visit rows i s ≡ s
-visit_past rows i s h = cond-false (nat_lt i (length s.order)) _ s (le-ltb _ _ h)
+  -- what the code comes to, at whatever visit none waits
+  pub settled : (i : ℕ) → (visited t i).waiting ≡ [] → (visited t i).levels ≡ levels_of_lem t
+  unfolding levels_of_lem
+  settled i e =
+      ⊎_elim
+      (λ lt. let s : t.count - i + i ≡ t.count = omega arith in sym (stays (t.count - i) i e).0 ∙ ap (λ j. (visited t j).levels) s)
+      (λ le. let s : i - t.count + t.count ≡ i = omega arith in ap (λ j. (visited t j).levels) (sym s) ∙ (stays (i - t.count) t.count none_last).0)
+      (cases_lt i t.count)
 
-pub visited_more : (rows : List Links) (i : ℕ) (s s' : Reached) → s ≡ visited rows i → s' ≡ visit rows i s → s' ≡ visited rows (i + 1)
-visited_more rows i s s' before step = step ∙ (ap (visit rows i) before ∙ sym (ap (visited rows) (add-one i)))
+  -- the node that waits longest can be visited
+  pub low_enough : (i : ℕ) (a : ℕ × ℕ) (rest : List (ℕ × ℕ)) → t.count ≤ 2048 → (visited t i).waiting ≡ a ∷ rest → a.1 < 2048
+  low_enough i a rest most e =
+      let steady = visited_steady i in
+      let entry : Entry (visited t i).levels a = All-head (Entry (visited t i).levels) a rest (subst (All (Entry (visited t i).levels)) e steady.entries) in
+      omega (arith, steady.low a.0 a.1 entry, steady.size, count_by-le-length is_some (visited t i).levels)
 
-pub visited_all : (rows : List Links) (i : ℕ) (s : Reached) → s ≡ visited rows i → i ≡ length rows → s.levels ≡ levels_of_lem rows
-unfolding levels_of_lem
-visited_all rows i s e all = ap (λ u. u.levels) (e ∙ ap (visited rows) all)
+  pub visited_next : (i : ℕ) (s s' : Reached) (a : ℕ × ℕ) (rest : List (ℕ × ℕ)) → s ≡ visited t i → s.waiting ≡ a ∷ rest → s' ≡ visit t a.0 a.1 (record { levels = s.levels; waiting = rest }) → s' ≡ visited t (suc i)
+  visited_next i s s' a rest is e step = step ∙ (ap (advance t s.levels) (sym e) ∙ ap (λ u. advance t u.levels u.waiting) is)
 
--- what a visit leaves
-module _ (rows : List Links) (most : length rows ≤ 2048) (i : ℕ) (s : Reached) (steady : Steady rows i s) where
-  visit_cases : (P : Reached → Type 0) → (i < length s.order → P (reach_both_lem (level_below s i) (slice_index_or rows (node_at s i) no_links) s)) → (length s.order ≤ i → P s) → P (visit rows i s)
-  visit_cases P here past = cond_both (nat_lt i (length s.order)) (reach_both_lem (level_below s i) (slice_index_or rows (node_at s i) no_links) s) s P (λ e. here (ltb-true _ _ e)) (λ e. past (ltb-false _ _ e))
+  -- each visit takes one from the nodes that wait or have no level
+  pub visit_falls : (s s' : Reached) (a : ℕ × ℕ) (rest : List (ℕ × ℕ)) → s.waiting ≡ a ∷ rest → s' ≡ visit t a.0 a.1 (record { levels = s.levels; waiting = rest }) → length s'.waiting + (length s'.levels - knowns s'.levels) < length s.waiting + (length s.levels - knowns s.levels)
+  visit_falls s s' a rest e step =
+      let before : Reached = record { levels = s.levels; waiting = rest } in
+      omega (
+        arith,
+        ap length e,
+        ap (λ u. length u.waiting) step,
+        ap (λ u. length u.levels) step,
+        ap (λ u. knowns u.levels) step,
+        visit_tally t a.0 a.1 before,
+        visit_longer t a.0 a.1 before,
+        count_by-le-length is_some s.levels,
+        count_by-le-length is_some s'.levels,
+      )
 
-  past_steady : length s.order ≤ i → Steady rows (suc i) s
-  past_steady past = record {
-    size = steady.size;
-    nodes = steady.nodes;
-    low = steady.low;
-    tally = steady.tally;
-    pending = λ x h known. ⊎_elim (λ p. absurd (omega (arith, p.later, p.within))) inr (steady.pending x h known);
-  }
+  -- a lawful tree
+  module _ (laws : Laws t) where
+    advance_true : (levels : List (Option ℕ)) (w : List (ℕ × ℕ)) → Steady t levels w → TrueLevels laws.level levels → TrueLevels laws.level (advance t levels w).levels
+    advance_true levels [] steady known = known
+    advance_true levels (a ∷ rest) steady known =
+        let is : a.1 ≡ laws.level a.0 = known a.0 a.1 (All-head (Entry levels) a rest steady.entries) in
+        visit_true t a.0 a.1 (record { levels = levels; waiting = rest }) laws.level (λ y e. omega (arith, laws.level_first a.0 y e)) (λ y e. omega (arith, laws.level_next a.0 y e)) known
 
-  visit_steady : Steady rows (suc i) (visit rows i s)
-  visit_steady = visit_cases (Steady rows (suc i)) (both_steady rows most i s steady) past_steady
+    visited_true : (i : ℕ) → TrueLevels laws.level (visited t i).levels
+    visited_true zero = reach_true 0 (Some 0) (untouched t.count) laws.level (λ y e. let s : 0 ≡ y = cc in ap laws.level (sym s) ∙ laws.level_root) (λ x l e. absurd (not_both _ l (none_yet t.count x) e))
+    visited_true (suc i) = advance_true (visited t i).levels (visited t i).waiting (visited_steady i) (visited_true i)
 
-  visit_keeps : (x : ℕ) → Known (length rows) s x → Known (length rows) (visit rows i s) x
-  visit_keeps x known = visit_cases (λ s'. Known (length rows) s' x) (λ here. both_keep rows most i s steady here x known) (λ _. known)
+    root_known : (i : ℕ) → Known (visited t i).levels 0
+    root_known zero = reach_known 0 (Some 0) (untouched t.count) t (length-replicate t.count None) 0 refl (omega (arith, laws.countable))
+    root_known (suc i) = let k = root_known i in (k.0, advance_keeps (visited t i).levels (visited t i).waiting 0 k.0 k.1)
 
-  visit_true : (laws : Laws (linked_tree rows)) → TrueLevels laws.level (length rows) s → TrueLevels laws.level (length rows) (visit rows i s)
-  visit_true laws known = visit_cases (TrueLevels laws.level (length rows)) (λ here. both_true rows most i s steady here laws known) (λ _. known)
-
--- the whole search
-module _ (rows : List Links) (most : length rows ≤ 2048) where
-  untouched_steady : Steady rows 0 (untouched (length rows))
-  untouched_steady = record {
-    size = length-replicate (length rows) 65535;
-    nodes = λ k h. absurd (omega arith);
-    low = λ k h. absurd (omega arith);
-    tally = omega (arith, all_unknown (length rows));
-    pending = λ x h known. absurd (known (get_or-replicate (length rows) x 65535 0 h));
-  }
-
-  pub visited_steady : (i : ℕ) → Steady rows i (visited rows i)
-  visited_steady zero = reach_steady rows most 0 0 0 (untouched (length rows)) untouched_steady (omega arith) (omega arith)
-  visited_steady (suc i) = visit_steady rows most i (visited rows i) (visited_steady i)
-
-  -- a place of the order can be visited
-  pub placed : (i : ℕ) (s : Reached) → s ≡ visited rows i → i < length s.order → (node_at s i < length s.levels) × (level_below s i ≤ 2048)
-  placed i s e h =
-      let steady : Steady rows i s = subst (Steady rows i) (sym e) (visited_steady i) in
-      (omega (arith, steady.nodes i h, steady.size), omega (arith, steady.low i h, steady.tally))
-
-  root_known : (i : ℕ) → Known (length rows) (visited rows i) 0
-  root_known zero = reach_known rows most 0 0 0 (untouched (length rows)) untouched_steady (omega arith) (omega arith)
-  root_known (suc i) = visit_keeps rows most i (visited rows i) (visited_steady i) 0 (root_known i)
-
-  module _ (laws : Laws (linked_tree rows)) where
-    visited_true : (i : ℕ) → TrueLevels laws.level (length rows) (visited rows i)
-    visited_true zero =
-        reach_true rows most 0 0 0 (untouched (length rows)) untouched_steady (omega arith) (omega arith) laws.level
-        (λ _. laws.level_root)
-        (λ x h known. absurd (known (get_or-replicate (length rows) x 65535 0 h)))
-    visited_true (suc i) = visit_true rows most i (visited rows i) (visited_steady i) laws (visited_true i)
-
-    -- no place is left, so what is known leads to known nodes
-    done_last : (x : ℕ) → x < length rows → Known (length rows) (visited rows (length rows)) x → Done rows (visited rows (length rows)) x
-    done_last x h known =
-        let steady : Steady rows (length rows) (visited rows (length rows)) = visited_steady (length rows) in
-        ⊎_elim (λ p. absurd (omega (arith, p.later, p.within, steady.tally))) (λ d. d) (steady.pending x h (known h))
-
-    abbrev last : Reached
-    last = visited rows (length rows)
-
-    by_first : (y x : ℕ) → (linked_tree rows).first y ≡ Some x → y < length rows → Known (length rows) last y → Known (length rows) last x
-    by_first y x e h known = subst (Known (length rows) last) (link_is _ x e) (done_last y h known).first
-
-    by_next : (y x : ℕ) → (linked_tree rows).next y ≡ Some x → y < length rows → Known (length rows) last y → Known (length rows) last x
-    by_next y x e h known = subst (Known (length rows) last) (link_is _ x e) (done_last y h known).next
-
-    -- a node is entered from one a level lower
-    known_at : (m x : ℕ) → laws.level x ≡ m → Known (length rows) last x
-    known_at zero x e h =
+    -- none waits in the end, so what has a level leads to nodes with one
+    done_last : (x : ℕ) → Known (visited t t.count).levels x → Done t (visited t t.count).levels x
+    done_last x known =
         ⊎_elim
-        (λ root. subst (Known (length rows) last) (sym root) (root_known (length rows)) h)
-        (λ other. absurd (omega (arith, laws.level_other x (omega arith) h)))
-        (cases_eq x 0)
-    known_at (suc m) x e h =
-        let other : 0 < x = ⊎_elim (λ root. absurd (omega (arith, laws.level_root, ap laws.level root))) (λ n. omega arith) (cases_eq x 0) in
-        ⊎_elim
-        (λ o. let y = o.0.0 in let back = laws.reversed Owner x y o.0.1 in by_first y x back (laws.inside Owner x y o.0.1) (known_at m y (omega (arith, laws.level_first y x back))) h)
-        (λ o. let y = o.1.0 in let back = laws.reversed Previous x y o.1.1 in by_next y x back (laws.inside Previous x y o.1.1) (known_at m y (omega (arith, laws.level_next y x back))) h)
-        (laws.one_way_in x other h)
+        (λ w. absurd (subst (λ (v : List (ℕ × ℕ)). Waits v x) none_last w))
+        (λ d. d)
+        ((visited_steady t.count).pending x known)
 
-    pub all_levels : (x : ℕ) → x < length rows → slice_index (levels_of_lem rows) x ≡ laws.level x
+    pub all_levels : (x : ℕ) → x < t.count → level_of (levels_of_lem t) x ≡ Some (laws.level x)
     unfolding levels_of_lem
-    all_levels x h = visited_true (length rows) x h (known_at (laws.level x) x refl h)
+    all_levels x h =
+        let known : Known (visited t t.count).levels x =
+        tree_ind t laws (Known (visited t t.count).levels) (root_known t.count)
+        (λ x y e k. (done_last x k).first y e (laws.inside First x y e))
+        (λ x y e k. (done_last x k).next y e (laws.inside Next x y e)) x h in
+        known.1 ∙ ap Some (visited_true t.count x known.0 known.1)

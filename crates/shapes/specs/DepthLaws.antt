@@ -1,15 +1,18 @@
 -- The tree of lawful depths keeps the laws of trees.
 use Rattle.std.specs.Prelude.{◌≡◌, ℕ, zero, suc, ◌+◌, ◌-◌, ◌<◌, ◌≤◌, cond, List, length, Some, None, Option, ◌≢◌, nat_le, refl}
-use Rattle.std.proofs.Common.{sym, ap, ◌∙◌, inl, inr, arith}
+use Rattle.std.proofs.Common.{sym, ap, subst, ◌∙◌, inl, inr, arith}
+use Rattle.std.proofs.lemmas.List.{length-map}
 use Rattle.std.proofs.lemmas.Bool.{cases_lt, cond-true, cond-false, le-leb, lt-leb}
 use Rattle.shapes.specs.declared.axis.Axis.{Axis}
 use Rattle.shapes.specs.declared.axis.Axis.TheVariants.{First, Next, Owner, Previous}
+use Rattle.shapes.specs.declared.depth.node.DepthNode.{DepthNode}
+use Rattle.shapes.specs.DepthTables.{depths_of, nodes_tree}
 use Rattle.shapes.specs.Tree.{Tree, along, back, EitherOne, Present, Countable, Laws}
+use Rattle.shapes.specs.Walks.{absent}
 use Rattle.shapes.specs.Depths.{depth_at, LawfulDepths, FirstChild, NextSibling, Neighbour, DepthTree}
 
 pub none_unless : (o : Option ℕ) → ((y : ℕ) → o ≢ Some y) → o ≡ None
-none_unless None h = refl
-none_unless (Some y) h = absurd (h y refl)
+none_unless o h = absent o (λ w. h w.0 w.1)
 
 -- the nodes from k down to 1 whose depth is at most m and that of every such node above: with m the depth of node k they are k
 -- and the nodes that lead to it, each by one step along first or next
@@ -145,3 +148,7 @@ module _ (ds : List ℕ) (t : Tree) (countable : Countable (length ds)) (lawful 
     level_first = λ x y e. level_first ds x y ((d.maps First x y).0 e);
     level_next = λ x y e. level_next ds x y ((d.maps Next x y).0 e);
   }
+
+-- the same of the nodes that a depth shape holds
+pub nodes_laws : (nodes : List DepthNode) → Countable (length nodes) → LawfulDepths (depths_of nodes) → DepthTree (depths_of nodes) (nodes_tree nodes) → Laws (nodes_tree nodes)
+nodes_laws nodes countable lawful d = depth_laws (depths_of nodes) (nodes_tree nodes) (subst Countable (sym (length-map nodes (λ n. n.depth))) countable) lawful d

@@ -1,6 +1,6 @@
 -- Being lawful, and having the tree of the depths, are propositions, so a struct may hold them as facts.
-use Rattle.std.specs.Prelude.{◌≡◌, ℕ, List, Some, None, Option, refl}
-use Rattle.std.proofs.Common.{ap, arith}
+use Rattle.std.specs.Prelude.{ℕ, List, Some, None, Option, refl}
+use Rattle.std.proofs.Common.{ap}
 use mathlib.Core.HLevel.{Π_prop, ×_prop, hedberg}
 use Rattle.std.proofs.Math.Bridge.{le_prop}
 use Rattle.std.proofs.Math.Decide.{ℕ_discrete}
@@ -12,8 +12,8 @@ use Rattle.shapes.specs.Depths.{KeepsRule, LawfulDepths, FirstChild, NextSibling
 
 option_discrete : Discrete (Option ℕ)
 option_discrete None None = yes refl
-option_discrete None (Some y) = no (λ e. let z : ◌≡◌ {A = ℕ} 0 1 = cc in omega arith)
-option_discrete (Some x) None = no (λ e. let z : ◌≡◌ {A = ℕ} 0 1 = cc in omega arith)
+option_discrete None (Some y) = no (λ e. cc)
+option_discrete (Some x) None = no (λ e. cc)
 option_discrete (Some x) (Some y) = elim (ℕ_discrete x y) [ yes e ↦ yes (ap Some e) | no n ↦ no (λ e. n (cc)) ]
 
 rule_prop : (ds : List ℕ) (x : ℕ) → IsProp (KeepsRule ds x)

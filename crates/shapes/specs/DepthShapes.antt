@@ -5,10 +5,10 @@ use Rattle.shapes.specs.declared.refusal.ShapeRefusal.{ShapeRefusal}
 use Rattle.shapes.specs.declared.refusal.ShapeRefusal.TheVariants.{NodeCount, BrokenLinks, UnlawfulDepth, NoMemory}
 use Rattle.shapes.specs.Tree.{Tree, Countable}
 use Rattle.shapes.specs.Depths.{LawfulDepths, DepthTree}
-use Rattle.shapes.specs.DepthTables.{FirstFault, table_tree}
+use Rattle.shapes.specs.DepthTables.{FirstFault, nodes_tree}
 
 abbrev pub depth_shape_tree : DepthShape → Tree
-depth_shape_tree s = table_tree (vec_items s.depths) (vec_items s.nexts) (vec_items s.previouses)
+depth_shape_tree s = nodes_tree (vec_items s.nodes)
 
 -- the shape has the tree of these depths, which are lawful
 pub record HasDepths (ds : List ℕ) (s : DepthShape) : Type 0 where

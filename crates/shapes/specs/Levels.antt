@@ -1,45 +1,47 @@
 -- Each node's distance from the root along first and next, worked out breadth first.
-use Rattle.std.specs.Prelude.{ℕ, zero, suc, ◌+◌, cond, List, [], ◌∷◌, ◌++◌, length, replicate, vec_items, ◌==◌, nat_lt, slice_index, slice_index_or, slice_set}
+use Rattle.std.specs.Prelude.{ℕ, zero, suc, ◌+◌, Bool, cond, ◌&&◌, List, [], ◌∷◌, ◌++◌, length, is_none, replicate, Some, None, Option, vec_items, nat_lt, slice_index_or, slice_set}
 use Rattle.shapes.specs.declared.levels.Search.{Search}
-use Rattle.shapes.specs.declared.links.Links.{Links}
-use Rattle.shapes.specs.Links.{no_links}
+use Rattle.shapes.specs.Tree.{Tree}
 
--- the level of each node, 65,535 where it is not reached yet; and the nodes reached, in their order
+-- the level of each node, none where it is not reached yet; and the nodes reached and not yet visited, with their levels
 pub record Reached : Type 0 where
-  pub levels : List ℕ
-  pub order : List ℕ
+  pub levels : List (Option ℕ)
+  pub waiting : List (ℕ × ℕ)
 
 abbrev pub reached : Search → Reached
-reached s = record { levels = vec_items s.levels; order = vec_items s.order }
+reached s = record { levels = vec_items s.levels; waiting = s.waiting.items }
+
+abbrev pub level_of : List (Option ℕ) → ℕ → Option ℕ
+level_of levels x = slice_index_or levels x None
 
 abbrev pub untouched : ℕ → Reached
-untouched n = record { levels = replicate n 65535; order = [] }
+untouched n = record { levels = replicate n None; waiting = [] }
+
+-- a node that has no level yet
+abbrev pub is_new : List (Option ℕ) → ℕ → Bool
+is_new levels x = nat_lt x (length levels) && is_none (level_of levels x)
 
 abbrev pub with_node : ℕ → ℕ → Reached → Reached
-with_node level node s = record { levels = slice_set s.levels node level; order = s.order ++ node ∷ [] }
+with_node level x s = record { levels = slice_set s.levels x (Some level); waiting = s.waiting ++ (x, level) ∷ [] }
 
--- past the nodes a level reads 0, so that nothing there is reached
-abbrev pub reach : ℕ → ℕ → Reached → Reached
-reach level node s = cond (slice_index s.levels node == 65535) (with_node level node s) s
+abbrev pub reach : ℕ → Option ℕ → Reached → Reached
+reach level None s = s
+reach level (Some x) s = cond (is_new s.levels x) (with_node level x s) s
 
--- the node at a place of the order, and the level of what it leads to
-abbrev pub node_at : Reached → ℕ → ℕ
-node_at s i = slice_index s.order i
+-- what a node leads to is reached a level below it
+abbrev pub visit : Tree → ℕ → ℕ → Reached → Reached
+visit t x level s = reach (level + 1) (t.next x) (reach (level + 1) (t.first x) s)
 
-abbrev pub level_below : Reached → ℕ → ℕ
-level_below s i = slice_index s.levels (node_at s i) + 1
+-- the visit to the node that waits longest
+abbrev pub advance : Tree → List (Option ℕ) → List (ℕ × ℕ) → Reached
+advance t levels [] = record { levels = levels; waiting = [] }
+advance t levels (a ∷ rest) = visit t a.0 a.1 (record { levels = levels; waiting = rest })
 
-abbrev pub reach_both_lem : ℕ → Links → Reached → Reached
-reach_both_lem level row s = reach level row.next (reach level row.first s)
+-- after the first i visits
+abbrev pub visited : Tree → ℕ → Reached
+visited t zero = reach 0 (Some 0) (untouched t.count)
+visited t (suc i) = advance t (visited t i).levels (visited t i).waiting
 
-abbrev pub visit : List Links → ℕ → Reached → Reached
-visit rows i s = cond (nat_lt i (length s.order)) (reach_both_lem (level_below s i) (slice_index_or rows (node_at s i) no_links) s) s
-
--- after the visits to the first i places of the order
-abbrev pub visited : List Links → ℕ → Reached
-visited rows zero = reach 0 0 (untouched (length rows))
-visited rows (suc i) = visit rows i (visited rows i)
-
--- there are no more places than nodes
-unfoldable pub levels_of_lem : List Links → List ℕ
-levels_of_lem rows = (visited rows (length rows)).levels
+-- there are no more visits than nodes
+unfoldable pub levels_of_lem : Tree → List (Option ℕ)
+levels_of_lem t = (visited t t.count).levels

@@ -5,9 +5,9 @@ use native.Mathlib.Omega.{arith}
 use Rattle.std.proofs.lemmas.Bool.{cases_eq, cases_lt, cond-true, cond-false, eq-eqb, ne_eqb}
 use Rattle.shapes.specs.declared.axis.Axis.{Axis}
 use Rattle.shapes.specs.declared.axis.Axis.TheVariants.{First, Next, Owner, Previous}
-use Rattle.shapes.specs.Tree.{Tree, Laws, along, back}
+use Rattle.shapes.specs.Tree.{Tree, Laws, along}
 use Rattle.shapes.specs.Mirrors.{Leads, walk_end}
-use Rattle.shapes.specs.Walks.{not_both, absent, walk_stop, walk_leads, walk_ends, one_end}
+use Rattle.shapes.specs.Walks.{not_both, absent, within, walk_stop, walk_leads, walk_ends, one_end}
 
 -- where the values of f below n cover the numbers below m, m is at most n
 pub covered : (n m : ℕ) (f : ℕ → ℕ) → ((k : ℕ) → k < m → (y : ℕ) × (y < n) × (f y ≡ k)) → m ≤ n
@@ -31,7 +31,7 @@ covered (suc n) (suc m) f h =
 module _ (t : Tree) (l : Laws t) where
   -- what has a neighbour is a node
   pub starts_inside : (a : Axis) (x y : ℕ) → along t a x ≡ Some y → x < t.count
-  starts_inside a x y e = l.inside (back a) y x (l.reversed a x y e)
+  starts_inside a x y e = within (along t a) t.count x y (l.outside a x) e
 
   -- no two nodes have the same neighbour along one axis
   pub injective : (a : Axis) (x x' y : ℕ) → along t a x ≡ Some y → along t a x' ≡ Some y → x ≡ x'

@@ -1,6 +1,7 @@
 -- Walks along a partial map of numbers, whatever the map.
-use Rattle.std.specs.Prelude.{◌≡◌, ℕ, zero, suc, ◌<◌, ◌⊎◌, Some, None, Option, ◌≢◌, refl}
+use Rattle.std.specs.Prelude.{◌≡◌, ℕ, zero, suc, ◌<◌, ◌≤◌, ◌⊎◌, Some, None, Option, ◌≢◌, refl}
 use Rattle.std.proofs.Common.{subst, inl, inr, ⊎_elim, arith}
+use Rattle.std.proofs.lemmas.Bool.{cases_lt}
 use Rattle.shapes.specs.Tree.{Present}
 use Rattle.shapes.specs.Mirrors.{Leads, walk_end}
 use Rattle.shapes.specs.Mirrors.Leads.{here, onward}
@@ -11,11 +12,15 @@ option_cases None = inl refl
 option_cases (Some y) = inr (y, refl)
 
 pub not_both : (o : Option ℕ) (y : ℕ) → o ≡ None → o ≢ Some y
-not_both o y n s = let z : ◌≡◌ {A = ℕ} 0 1 = cc in omega arith
+not_both o y n s = cc
 
 pub absent : (o : Option ℕ) → (Present o → ⊥) → o ≡ None
 absent None h = refl
 absent (Some y) h = absurd (h (y, refl))
+
+-- a map that has nothing from n on has something only below n
+pub within : (f : ℕ → Option ℕ) (n x y : ℕ) → (n ≤ x → f x ≡ None) → f x ≡ Some y → x < n
+within f n x y outside e = ⊎_elim (λ h. h) (λ h. absurd (not_both (f x) y (outside h) e)) (cases_lt x n)
 
 pub walk_stop : (f : ℕ → Option ℕ) (k x : ℕ) → f x ≡ None → walk_end f k x ≡ x
 walk_stop f zero x e = refl

@@ -1,108 +1,108 @@
 //! The test of each node of a table, given the levels of the nodes.
-ghost use Rattle.std.specs.Prelude.{◌≡◌, ℕ, ◌<◌, true, length, Decides, slice_index};
-ghost use Rattle.shapes.specs.Certified.{is_node_lem, answered_at, all_answered_lem, rises, both_rise_lem, root_alone_lem, one_entry, entered, certified};
+ghost use Rattle.std.specs.Prelude.{◌≡◌, ℕ, ◌<◌, true, length, Decides};
+ghost use Rattle.shapes.specs.Certified.{answered_at, all_answered_lem, rises, both_rise_lem, root_alone_lem, one_entry, certified_at};
+ghost use Rattle.shapes.specs.Levels.{level_of};
 ghost use Rattle.shapes.specs.Links.{linked_tree};
-ghost use Rattle.shapes.specs.Tree.{back};
+ghost use Rattle.shapes.specs.Tree.{along};
 
 use crate::axis::Axis;
 use crate::links::Links;
-use crate::table::{led_to, number_at};
+use crate::table::led_to;
 
-fn reversed(axis: Axis) -> Axis
-    ensures { result ≡ back axis }
-{
-    match axis {
-        Axis::First => Axis::Owner,
-        Axis::Next => Axis::Previous,
-        Axis::Owner => Axis::First,
-        Axis::Previous => Axis::Next,
+/// A table of links, with a level for each node.
+#[derive(Clone, Copy)]
+pub(crate) struct Leveled<'a> {
+    pub(crate) rows: &'a [Links],
+    pub(crate) levels: &'a [Option<u16>],
+}
+
+impl Leveled<'_> {
+    fn led_to(&self, axis: Axis, node: usize) -> Option<usize>
+        ensures { result ≡ along (linked_tree self.now.rows.now) axis node }
+    {
+        led_to(self.rows, axis, node)
     }
-}
 
-fn is_node(found: Option<usize>, node: usize) -> bool
-    ensures { result ≡ is_node_lem found node }
-{
-    match found {
-        None => false,
-        Some(other) => other == node,
+    fn level(&self, node: usize) -> Option<u16>
+        ensures { result ≡ level_of self.now.levels.now node }
+    {
+        self.levels.get(node).copied().flatten()
     }
-}
 
-/// Whether a link along an axis leads to a node that leads back.
-fn answered(rows: &[Links], node: usize, axis: Axis) -> bool
-    ensures { result ≡ answered_at (linked_tree rows.now) node axis }
-{
-    match led_to(rows, axis, node) {
-        None => true,
-        Some(other) => other < rows.len() && is_node(led_to(rows, reversed(axis), other), node),
-    }
-}
-
-fn all_answered(rows: &[Links], node: usize) -> bool
-    ensures { result ≡ all_answered_lem (linked_tree rows.now) node }
-{
-    (answered(rows, node, Axis::First) && answered(rows, node, Axis::Next))
-        && (answered(rows, node, Axis::Owner) && answered(rows, node, Axis::Previous))
-}
-
-/// Whether the level grows by 1 where a link leads.
-fn rises(levels: &[u16], node: usize, below: Option<usize>) -> bool
-    ensures { result ≡ rises (λ y. slice_index levels.now y) node below }
-{
-    match below {
-        None => true,
-        Some(other) => number_at(levels, other) as usize == number_at(levels, node) as usize + 1,
-    }
-}
-
-fn both_rise(rows: &[Links], levels: &[u16], node: usize) -> bool
-    ensures { result ≡ both_rise_lem (linked_tree rows.now) (λ y. slice_index levels.now y) node }
-{
-    rises(levels, node, led_to(rows, Axis::First, node))
-        && rises(levels, node, led_to(rows, Axis::Next, node))
-}
-
-/// Whether the root stands alone at level 0.
-fn root_alone(rows: &[Links], levels: &[u16]) -> bool
-    ensures { result ≡ root_alone_lem (linked_tree rows.now) (λ y. slice_index levels.now y) }
-{
-    (number_at(levels, 0) == 0 && led_to(rows, Axis::Next, 0).is_none())
-        && (led_to(rows, Axis::Owner, 0).is_none() && led_to(rows, Axis::Previous, 0).is_none())
-}
-
-/// Whether a node has just one of owner and previous, and a level above 0.
-fn one_entry(rows: &[Links], levels: &[u16], node: usize) -> bool
-    ensures { result ≡ one_entry (linked_tree rows.now) (λ y. slice_index levels.now y) node }
-{
-    let owned = led_to(rows, Axis::Owner, node).is_some();
-    let preceded = led_to(rows, Axis::Previous, node).is_some();
-    0 < number_at(levels, node) && if owned { !preceded } else { preceded }
-}
-
-fn entered(rows: &[Links], levels: &[u16], node: usize) -> bool
-    ensures { result ≡ entered (linked_tree rows.now) (λ y. slice_index levels.now y) node }
-{
-    if node == 0 {
-        root_alone(rows, levels)
-    } else {
-        one_entry(rows, levels, node)
-    }
-}
-
-fn certified(rows: &[Links], levels: &[u16], node: usize) -> bool
-    ensures { result ≡ certified (linked_tree rows.now) (λ y. slice_index levels.now y) node }
-{
-    all_answered(rows, node) && (both_rise(rows, levels, node) && entered(rows, levels, node))
-}
-
-/// Whether every node passes the test at these levels.
-pub(crate) fn all_certified(rows: &[Links], levels: &[u16]) -> bool
-    ensures { Decides result ((x : ℕ) → x < length rows.now → certified (linked_tree rows.now) (λ y. slice_index levels.now y) x ≡ true) }
-{
-    for node in 0..rows.len() {
-        if !certified(rows, levels, node) {
-            return false;
+    /// Whether a link along an axis leads to a node that leads back.
+    fn answered(&self, axis: Axis, node: usize) -> bool
+        ensures { result ≡ answered_at (linked_tree self.now.rows.now) node axis }
+    {
+        match self.led_to(axis, node) {
+            None => true,
+            Some(other) => {
+                other < self.rows.len() && self.led_to(axis.reversed(), other) == Some(node)
+            }
         }
     }
-    true
+
+    fn all_answered(&self, node: usize) -> bool
+        ensures { result ≡ all_answered_lem (linked_tree self.now.rows.now) node }
+    {
+        self.answered(Axis::First, node)
+            && self.answered(Axis::Next, node)
+            && self.answered(Axis::Owner, node)
+            && self.answered(Axis::Previous, node)
+    }
+
+    /// Whether the level grows by 1 where a link along an axis leads.
+    ///
+    /// Two nodes without levels pass here, and each fails as one that is not entered.
+    fn rises(&self, axis: Axis, node: usize) -> bool
+        ensures { result ≡ rises (level_of self.now.levels.now) node (along (linked_tree self.now.rows.now) axis node) }
+    {
+        match self.led_to(axis, node) {
+            None => true,
+            Some(below) => {
+                self.level(below).map(usize::from)
+                    == self.level(node).map(|level| usize::from(level) + 1)
+            }
+        }
+    }
+
+    /// Whether the root stands alone at level 0.
+    fn root_alone(&self) -> bool
+        ensures { result ≡ root_alone_lem (linked_tree self.now.rows.now) (level_of self.now.levels.now) }
+    {
+        self.level(0) == Some(0)
+            && [Axis::Next, Axis::Owner, Axis::Previous]
+                .into_iter()
+                .all(|axis| self.led_to(axis, 0).is_none())
+    }
+
+    /// Whether a node has just one of owner and previous, and a level above 0.
+    fn one_entry(&self, node: usize) -> bool
+        ensures { result ≡ one_entry (linked_tree self.now.rows.now) (level_of self.now.levels.now) node }
+    {
+        let owned = self.led_to(Axis::Owner, node).is_some();
+        let preceded = self.led_to(Axis::Previous, node).is_some();
+        self.level(node).unwrap_or(0) > 0 && owned != preceded
+    }
+
+    #[tactic(auto, unfolding(crate::specs::Certified::certified_at))]
+    fn certified(&self, node: usize) -> bool
+        ensures { result ≡ certified_at self.now.rows.now self.now.levels.now node }
+    {
+        let entered = if node == 0 {
+            self.root_alone()
+        } else {
+            self.one_entry(node)
+        };
+        self.all_answered(node)
+            && self.rises(Axis::First, node)
+            && self.rises(Axis::Next, node)
+            && entered
+    }
+
+    /// Whether every node passes the test.
+    pub(crate) fn all_certified(&self) -> bool
+        ensures { Decides result ((x : ℕ) → x < length self.now.rows.now → certified_at self.now.rows.now self.now.levels.now x ≡ true) }
+    {
+        (0..self.rows.len()).all(|node| self.certified(node))
+    }
 }

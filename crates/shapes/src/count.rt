@@ -7,5 +7,5 @@ const MOST_NODES: usize = 2048;
 pub(crate) fn is_countable(nodes: usize) -> bool
     ensures { Decides result (Countable nodes) }
 {
-    1 <= nodes && nodes <= MOST_NODES
+    (1..=MOST_NODES).contains(&nodes)
 }

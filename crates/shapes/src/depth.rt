@@ -1,23 +1,25 @@
 //! A shape filled from depths.
-ghost use Rattle.shapes.specs.DepthTables.{table_tree};
+ghost use Rattle.shapes.specs.DepthTables.{depths_of, nodes_tree};
 ghost use Rattle.shapes.specs.Depths.{DepthTree, LawfulDepths};
 ghost use Rattle.shapes.specs.Tree.{Countable};
 ghost use Rattle.std.specs.Prelude.{length};
 
+use node::DepthNode;
+
 mod fill;
 mod neighbours;
+mod node;
 mod rule;
 mod siblings;
 
-/// A sibling tree held as one depth per node, in document order.
+/// A sibling tree held as a node for each depth, in document order.
 ///
-/// Two depths tell a first child and its owner; the siblings stand in tables.
+/// Two depths tell a first child and its owner; the siblings stand in the nodes.
 #[derive(Drop)]
+// Indices and no boxes, by a rule of the project: nodes are asked for by number, each in constant time.
 pub struct DepthShape {
-    depths: Vec<u16>,
-    nexts: Vec<Option<usize>>,
-    previouses: Vec<Option<usize>>,
-    ghost counted: { Countable (length depths.items) },
-    ghost lawful: { ∥ LawfulDepths depths.items ∥₁ },
-    ghost told: { ∥ DepthTree depths.items (table_tree depths.items nexts.items previouses.items) ∥₁ },
+    nodes: Vec<DepthNode>,
+    ghost counted: { Countable (length nodes.items) },
+    ghost lawful: { ∥ LawfulDepths (depths_of nodes.items) ∥₁ },
+    ghost told: { ∥ DepthTree (depths_of nodes.items) (nodes_tree nodes.items) ∥₁ },
 }

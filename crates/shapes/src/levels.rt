@@ -1,73 +1,63 @@
 //! Levels of the nodes of a table, worked out breadth first from the root.
-ghost use Rattle.std.specs.Prelude.{◌≡◌, ◌≤◌, length, IfOk, OnOk};
-ghost use Rattle.shapes.specs.Levels.{reached, untouched, reach, reach_both_lem, visit, visited, levels_of_lem};
+ghost use Rattle.std.specs.Prelude.{◌≡◌, ◌<◌, ◌≤◌, length, IfOk, OnOk};
+ghost use Rattle.shapes.specs.Levels.{reached, untouched, reach, visit, levels_of_lem};
+ghost use Rattle.shapes.specs.Links.{linked_tree};
 
+use crate::axis::Axis;
 use crate::links::Links;
-use crate::table::{number_at, row_at};
+use crate::table::led_to;
 use std::alloc::{AllocError, Global};
+use std::collections::VecDeque;
 
-const UNREACHED: u16 = 65_535;
-
-/// The level of each node, and the nodes reached, in their order.
+/// The level of each node reached, and the nodes reached and not yet visited, with their levels.
 #[derive(Drop)]
 struct Search {
-    levels: Vec<u16>,
-    order: Vec<u16>,
+    levels: Vec<Option<u16>>,
+    waiting: VecDeque<(usize, u16)>,
 }
 
 impl Search {
     fn new(heap: Global, count: usize) -> Result<Search, AllocError>
         ensures { IfOk result (λ s. reached s ≡ untouched count) }
     {
-        let levels = vec![in heap; UNREACHED; count]?;
-        let order = Vec::new(heap);
-        Ok(Search { levels, order })
+        let levels = vec![in heap; None; count]?;
+        let waiting = VecDeque::new(heap);
+        Ok(Search { levels, waiting })
     }
 
-    /// Gives a node its level, unless it has one.
-    fn reach(&mut self, level: u16, node: u16) -> Result<(), AllocError>
-        ensures { OnOk result (reached self.new ≡ reach level node (reached self.old)) }
+    /// Gives a node its level, if there is one and it has none yet.
+    fn reach(&mut self, level: u16, found: Option<usize>) -> Result<(), AllocError>
+        ensures { OnOk result (reached self.new ≡ reach level found (reached self.old)) }
     {
-        if number_at(&self.levels, node as usize) == UNREACHED {
-            self.levels[node as usize] = level;
-            self.order.push(node)?;
+        match found {
+            Some(node) if node < self.levels.len() && self.levels[node].is_none() => {
+                self.levels[node] = Some(level);
+                self.waiting.push_back((node, level))?;
+            }
+            _ => {}
         }
         Ok(())
     }
 
-    /// Reaches what a node with these links leads to.
-    fn reach_both(&mut self, level: u16, row: Links) -> Result<(), AllocError>
-        ensures { OnOk result (reached self.new ≡ reach_both_lem level row (reached self.old)) }
+    /// Reaches what a node leads to, a level below it.
+    fn visit(&mut self, rows: &[Links], node: usize, level: u16) -> Result<(), AllocError>
+        requires { level < 2048 }
+        ensures { OnOk result (reached self.new ≡ visit (linked_tree rows.now) node level (reached self.old)) }
     {
-        self.reach(level, row.first)?;
-        self.reach(level, row.next)
-    }
-
-    /// Reaches what the node at a place of the order leads to.
-    fn visit(&mut self, rows: &[Links], place: usize) -> Result<(), AllocError>
-        requires few { length rows.now ≤ 2048 }
-        requires before { reached self.old ≡ visited rows.now place }
-        ensures { OnOk result (reached self.new ≡ visit rows.now place (reached self.old)) }
-    {
-        if place < self.order.len() {
-            let node = number_at(&self.order, place) as usize;
-            let level = number_at(&self.levels, node) + 1;
-            let row = row_at(rows, node);
-            self.reach_both(level, row)?;
-        }
-        Ok(())
+        self.reach(level + 1, led_to(rows, Axis::First, node))?;
+        self.reach(level + 1, led_to(rows, Axis::Next, node))
     }
 }
 
 /// The level of each node of a table; those that no way from the root leads to have none.
-pub(crate) fn levels_of(heap: Global, rows: &[Links]) -> Result<Vec<u16>, AllocError>
+pub(crate) fn levels_of(heap: Global, rows: &[Links]) -> Result<Vec<Option<u16>>, AllocError>
     requires { length rows.now ≤ 2048 }
-    ensures { IfOk result (λ v. v.items ≡ levels_of_lem rows.now) }
+    ensures { IfOk result (λ v. v.items ≡ levels_of_lem (linked_tree rows.now)) }
 {
     let mut search = Search::new(heap, rows.len())?;
-    search.reach(0, 0)?;
-    for place in 0..rows.len() {
-        search.visit(rows, place)?;
+    search.reach(0, Some(0))?;
+    while let Some((node, level)) = search.waiting.pop_front() {
+        search.visit(rows, node, level)?;
     }
     Ok(search.levels)
 }

@@ -12,6 +12,7 @@ mod tests;
 
 /// A tree held as the links of each node.
 #[derive(Drop)]
+// Indices and no boxes, by a rule of the project: nodes are asked for by number, each in constant time.
 pub struct LinkedShape {
     rows: Vec<Links>,
     ghost count: { Countable (length rows.items) },

@@ -16,6 +16,7 @@ pub struct Mirrored<S> {
 }
 
 // Where an axis leads in the end: the last node on it, or the node itself.
+// `successors(..).last()` is no plainer: it gives an option, which is never none here.
 fn end_along<S: Shape>(shape: &S, axis: Axis, node: usize) -> usize
     ensures { result ≡ walk_end (along (tree_of S.Shape shape.now) axis) (S.Shape.count shape.now) node }
 {
@@ -75,27 +76,20 @@ impl<S: Shape> Shape for Mirrored<S> {
         self.shape.node_count()
     }
 
-    fn first_of(&self, node: usize) -> Option<usize> {
-        match self.shape.first_of(node) {
-            None => None,
-            Some(eldest) => Some(end_along(&self.shape, Axis::Next, eldest)),
-        }
-    }
-
-    fn next_of(&self, node: usize) -> Option<usize> {
-        self.shape.previous_of(node)
-    }
-
-    fn owner_of(&self, node: usize) -> Option<usize> {
-        match self.shape.next_of(node) {
-            None => self
+    fn neighbour(&self, axis: Axis, node: usize) -> Option<usize> {
+        match axis {
+            Axis::First => self
                 .shape
-                .owner_of(end_along(&self.shape, Axis::Previous, node)),
-            Some(_) => None,
+                .first_of(node)
+                .map(|eldest| end_along(&self.shape, Axis::Next, eldest)),
+            Axis::Next => self.shape.previous_of(node),
+            Axis::Owner => match self.shape.next_of(node) {
+                None => self
+                    .shape
+                    .owner_of(end_along(&self.shape, Axis::Previous, node)),
+                Some(_) => None,
+            },
+            Axis::Previous => self.shape.next_of(node),
         }
-    }
-
-    fn previous_of(&self, node: usize) -> Option<usize> {
-        self.shape.next_of(node)
     }
 }

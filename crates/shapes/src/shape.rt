@@ -22,32 +22,36 @@ pub trait Shape {
     fn node_count(&self) -> usize
         ensures { result ≡ count self.now };
 
+    /// The neighbour along an axis.
+    fn neighbour(&self, axis: Axis, node: usize) -> Option<usize>
+        ensures { result ≡ along (tree (count self.now) (first self.now) (next self.now) (owner self.now) (previous self.now)) axis node };
+
     /// The first child.
     fn first_of(&self, node: usize) -> Option<usize>
-        ensures { result ≡ first self.now node };
+        ensures { result ≡ first self.now node }
+    {
+        self.neighbour(Axis::First, node)
+    }
 
     /// The sibling to the right.
     fn next_of(&self, node: usize) -> Option<usize>
-        ensures { result ≡ next self.now node };
+        ensures { result ≡ next self.now node }
+    {
+        self.neighbour(Axis::Next, node)
+    }
 
     /// The node whose first child this is.
     fn owner_of(&self, node: usize) -> Option<usize>
-        ensures { result ≡ owner self.now node };
+        ensures { result ≡ owner self.now node }
+    {
+        self.neighbour(Axis::Owner, node)
+    }
 
     /// The sibling to the left.
     fn previous_of(&self, node: usize) -> Option<usize>
-        ensures { result ≡ previous self.now node };
-
-    /// The neighbour along an axis.
-    fn neighbour(&self, axis: Axis, node: usize) -> Option<usize>
-        ensures { result ≡ along (tree (count self.now) (first self.now) (next self.now) (owner self.now) (previous self.now)) axis node }
+        ensures { result ≡ previous self.now node }
     {
-        match axis {
-            Axis::First => self.first_of(node),
-            Axis::Next => self.next_of(node),
-            Axis::Owner => self.owner_of(node),
-            Axis::Previous => self.previous_of(node),
-        }
+        self.neighbour(Axis::Previous, node)
     }
 
     ghost laws: { (s : Self) → Laws (tree (count s) (first s) (next s) (owner s) (previous s)) };

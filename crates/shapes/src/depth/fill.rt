@@ -1,16 +1,14 @@
 //! A depth shape is made and filled.
 ghost use Rattle.shapes.specs.DepthShapes.{DepthsFilled, DepthsRefused, HasDepths};
-ghost use Rattle.shapes.specs.Depths.{LawfulDepths};
-ghost use Rattle.shapes.specs.Tree.{Countable};
-ghost use Rattle.std.specs.Prelude.{◌≡◌, [], ◌∷◌, length, IfOk, MatchResult};
+ghost use Rattle.std.specs.Prelude.{◌≡◌, [], ◌∷◌, MatchResult};
 ghost use Rattle.shapes.specs.declared.refusal.ShapeRefusal.TheVariants.{NoMemory};
 
 use crate::count::is_countable;
 use crate::depth::DepthShape;
 use crate::depth::rule::first_fault;
-use crate::depth::siblings::{previous_siblings, reversed};
+use crate::depth::siblings::nodes_of;
 use crate::refusal::ShapeRefusal;
-use std::alloc::{AllocError, Global};
+use std::alloc::Global;
 
 impl DepthShape {
     /// A single node.
@@ -38,25 +36,8 @@ impl DepthShape {
         if let Some(node) = first_fault(depths) {
             return Err(ShapeRefusal::UnlawfulDepth { node });
         }
-        match DepthShape::of_lawful(heap, depths) {
-            Ok(shape) => Ok(shape),
-            Err(_) => Err(ShapeRefusal::NoMemory),
-        }
-    }
-
-    fn of_lawful(heap: Global, depths: &[u16]) -> Result<DepthShape, AllocError>
-        requires countable { Countable (length depths.now) }
-        requires lawful { LawfulDepths depths.now }
-        ensures { IfOk result (HasDepths depths.now) }
-    {
-        let previouses = previous_siblings(heap, depths)?;
-        let nexts = reversed(heap, &previouses)?;
-        let depths = Vec::from_slice(heap, depths)?;
-        Ok(DepthShape {
-            depths,
-            nexts,
-            previouses,
-        })
+        let nodes = nodes_of(heap, depths)?;
+        Ok(DepthShape { nodes })
     }
 }
 

@@ -19,10 +19,5 @@ fn keeps_rule(depths: &[u16], node: usize) -> bool
 pub(super) fn first_fault(depths: &[u16]) -> Option<usize>
     ensures { MatchOption result (LawfulDepths depths.now) (FirstFault depths.now) }
 {
-    for node in 0..depths.len() {
-        if !keeps_rule(depths, node) {
-            return Some(node);
-        }
-    }
-    None
+    (0..depths.len()).find(|node| !keeps_rule(depths, *node))
 }

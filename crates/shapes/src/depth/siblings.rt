@@ -1,9 +1,10 @@
-//! The tables of siblings.
-ghost use Rattle.std.specs.Prelude.{◌≡◌, ℕ, ◌<◌, length, IfOk, Some, None, slice_index_or};
-ghost use Rattle.shapes.specs.DepthTables.{AllLatest, Tells};
+//! The nodes of a depth list, with their siblings.
+ghost use Rattle.std.specs.Prelude.{◌≡◌, ℕ, ◌<◌, length, IfOk, Some};
+ghost use Rattle.shapes.specs.DepthTables.{AllLatest, DepthNodes};
 ghost use Rattle.shapes.specs.Depths.{LawfulDepths, NextSibling};
 ghost use Rattle.shapes.specs.Tree.{Iff};
 
+use crate::depth::node::DepthNode;
 use std::alloc::{AllocError, Global};
 
 /// The sibling to the left of a node, from the latest node of each depth.
@@ -23,37 +24,24 @@ fn previous_sibling(depths: &[u16], latest: &[usize], node: usize) -> Option<usi
     }
 }
 
-/// The sibling to the left of each node.
-pub(super) fn previous_siblings(
-    heap: Global,
-    depths: &[u16],
-) -> Result<Vec<Option<usize>>, AllocError>
+/// The nodes of these depths.
+pub(super) fn nodes_of(heap: Global, depths: &[u16]) -> Result<Vec<DepthNode>, AllocError>
     requires { LawfulDepths depths.now }
-    ensures { IfOk result (λ v. Tells v.items (λ y x. NextSibling depths.now x y)) }
+    ensures { IfOk result (λ v. DepthNodes depths.now v.items) }
 {
     let mut latest = vec![in heap; 0usize; depths.len()]?;
-    let mut previouses = Vec::with_capacity(heap, depths.len())?;
+    let mut nodes = Vec::with_capacity(heap, depths.len())?;
     for (node, depth) in depths.iter().enumerate() {
-        previouses.push(previous_sibling(depths, &latest, node))?;
+        let previous = previous_sibling(depths, &latest, node);
+        nodes.push(DepthNode {
+            depth: *depth,
+            next: None,
+            previous,
+        })?;
+        if let Some(left) = previous {
+            nodes[left].next = Some(node);
+        }
         latest[*depth as usize] = node;
     }
-    Ok(previouses)
-}
-
-/// The table that leads back: it has `y` at `x` where the given one has `x` at `y`.
-pub(super) fn reversed(
-    heap: Global,
-    table: &[Option<usize>],
-) -> Result<Vec<Option<usize>>, AllocError>
-    requires inside { (y x : ℕ) → slice_index_or table.now y None ≡ Some x → x < length table.now }
-    requires once { (y z x : ℕ) → slice_index_or table.now y None ≡ Some x → slice_index_or table.now z None ≡ Some x → y ≡ z }
-    ensures { IfOk result (λ v. Tells v.items (λ x y. slice_index_or table.now y None ≡ Some x)) }
-{
-    let mut back = vec![in heap; None; table.len()]?;
-    for (y, place) in table.iter().enumerate() {
-        if let Some(x) = *place {
-            back[x] = Some(y);
-        }
-    }
-    Ok(back)
+    Ok(nodes)
 }

@@ -5,13 +5,12 @@ ghost use Rattle.shapes.specs.LinkedShapes.{OneNode, FillOutcome};
 ghost use Rattle.shapes.specs.Tree.{Countable};
 ghost use Rattle.shapes.specs.declared.refusal.ShapeRefusal.TheVariants.{NoMemory};
 
-use crate::certified::all_certified;
+use crate::certified::Leveled;
 use crate::count::is_countable;
 use crate::levels::levels_of;
 use crate::linked::LinkedShape;
-use crate::links::Links;
+use crate::links::{Links, NO_LINKS};
 use crate::refusal::ShapeRefusal;
-use crate::table::NO_LINKS;
 use std::alloc::Global;
 
 /// Whether a table obeys the laws of trees.
@@ -19,19 +18,12 @@ fn is_lawful(heap: Global, rows: &[Links]) -> Result<bool, ShapeRefusal>
     requires { Countable (length rows.now) }
     ensures { MatchResult result (Verdict rows.now) (λ e. e ≡ NoMemory) }
 {
-    let Ok(levels) = levels_of(heap, rows) else {
-        return Err(ShapeRefusal::NoMemory);
-    };
-    Ok(all_certified(rows, &levels))
-}
-
-fn copied(heap: Global, rows: &[Links]) -> Result<Vec<Links>, ShapeRefusal>
-    ensures { MatchResult result (λ v. v.items ≡ rows.now) (λ e. e ≡ NoMemory) }
-{
-    match Vec::from_slice(heap, rows) {
-        Ok(copy) => Ok(copy),
-        Err(_) => Err(ShapeRefusal::NoMemory),
+    let levels = levels_of(heap, rows)?;
+    Ok(Leveled {
+        rows,
+        levels: &levels,
     }
+    .all_certified())
 }
 
 impl LinkedShape {
@@ -39,7 +31,7 @@ impl LinkedShape {
     pub fn new(heap: Global) -> Result<LinkedShape, ShapeRefusal>
         ensures { OneNode result }
     {
-        let rows = copied(heap, &[NO_LINKS])?;
+        let rows = Vec::from_slice(heap, &[NO_LINKS])?;
         Ok(LinkedShape { rows })
     }
 
@@ -50,11 +42,10 @@ impl LinkedShape {
         if !is_countable(rows.len()) {
             return Err(ShapeRefusal::NodeCount);
         }
-        let lawful = is_lawful(heap, rows)?;
-        if !lawful {
+        if !is_lawful(heap, rows)? {
             return Err(ShapeRefusal::BrokenLinks);
         }
-        self.rows = copied(heap, rows)?;
+        self.rows = Vec::from_slice(heap, rows)?;
         Ok(())
     }
 }

@@ -24,19 +24,7 @@ impl Shape for LinkedShape {
         self.rows.len()
     }
 
-    fn first_of(&self, node: usize) -> Option<usize> {
-        led_to(&self.rows, Axis::First, node)
-    }
-
-    fn next_of(&self, node: usize) -> Option<usize> {
-        led_to(&self.rows, Axis::Next, node)
-    }
-
-    fn owner_of(&self, node: usize) -> Option<usize> {
-        led_to(&self.rows, Axis::Owner, node)
-    }
-
-    fn previous_of(&self, node: usize) -> Option<usize> {
-        led_to(&self.rows, Axis::Previous, node)
+    fn neighbour(&self, axis: Axis, node: usize) -> Option<usize> {
+        led_to(&self.rows, axis, node)
     }
 }

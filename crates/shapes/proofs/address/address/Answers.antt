@@ -1,8 +1,7 @@
-use Rattle.std.proofs.Common.{reverse, sym, ap, ◌∙◌, arith}
-use Rattle.std.proofs.lemmas.Result.{MatchResult-from_err}
+use Rattle.std.proofs.Common.{sym, ◌∙◌, arith}
 use Rattle.shapes.specs.declared.axis.Axis.TheVariants.{Owner, Previous}
 use Rattle.shapes.proofs.Addresses.{sibling_tree}
-use Rattle.shapes.proofs.Spelling.{start, to_previous, to_owner, at_end, not_empty, fits}
+use Rattle.shapes.proofs.Spelling.{start, to_previous, to_owner, fits}
 use Rattle.shapes.specs.Trees.{to_go, to_go_falls}
 use Rattle.shapes.proofs.address.address.Goals as goal
 
@@ -27,16 +26,8 @@ pub loop-left-preserved : goal.loop-left-preserved
 loop-left-preserved g c =
     rw c.in_ok-push.ensures.items (to_owner _ _ _ _ _ _ c.loop-left.invariant _ (sym c.owner_of.ensures ∙ c.in-Some-owner_of.is))
 
-pub returns-in_err-push : goal.returns-in_err-push
-returns-in_err-push g c = record {
-  word = MatchResult-from_err _ _ _ c.from_residual.ensures.0 (λ _. not_empty _ _ _ _ _ _ c.loop-left.invariant _ (sym c.owner_of.ensures ∙ c.in-Some-owner_of.is));
-  sibling_tree = sibling_tree _ (g.met.S.Shape.laws c.args.shape.now);
-}
+pub returns-in_err-push-clause-sibling_tree : goal.returns-in_err-push-clause-sibling_tree
+returns-in_err-push-clause-sibling_tree g c = sibling_tree _ (g.met.S.Shape.laws c.args.shape.now)
 
-pub returns-in_default-owner_of : goal.returns-in_default-owner_of
-returns-in_default-owner_of g c = record {
-  word =
-      c.reverse.ensures.items
-      ∙ ap reverse (at_end _ _ _ _ _ _ c.loop-left.invariant (sym c.previous_of.ensures ∙ c.in_default.is) (sym c.owner_of.ensures ∙ c.in_default-owner_of.is));
-  sibling_tree = sibling_tree _ (g.met.S.Shape.laws c.args.shape.now);
-}
+pub returns-in_default-owner_of-clause-sibling_tree : goal.returns-in_default-owner_of-clause-sibling_tree
+returns-in_default-owner_of-clause-sibling_tree g c = sibling_tree _ (g.met.S.Shape.laws c.args.shape.now)
