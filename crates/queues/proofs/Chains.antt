@@ -1,30 +1,15 @@
 -- A list that is threaded through a table: what taking its first entry and putting one more at its end leave.
-use Rattle.std.proofs.Common.{◌≡◌, ℕ, ◌+◌, ◌-◌, ◌<◌, ◌≤◌, min, ltb, ◌≢◌, ◌⊎◌, List, [], ◌∷◌, ◌++◌, length, get_or, drop, set, replicate, None, sym, refl, ap, ◌∙◌, subst, inl, inr, ⊎_elim, arith}
-use Rattle.std.proofs.lemmas.List.{get_or-set_same, get_or-set_other, length-set, get_or_past, set_past, length-replicate, get_or-replicate, get_or-drop, get_or_append_left, get_or-append_right}
+use Rattle.std.proofs.Common.{◌≡◌, ℕ, ◌+◌, ◌-◌, ◌<◌, ltb, ◌≢◌, List, [], ◌∷◌, ◌++◌, length, get_or, set, None, sym, refl, ap, ◌∙◌, subst, inl, inr, ⊎_elim, arith}
+use Rattle.std.proofs.lemmas.List.{get_or-set_same, get_or-set_other, length-set}
 use Rattle.std.proofs.ByRecursion.{All-push}
-use Rattle.std.proofs.lemmas.Bool.{cases_eq, cases_lt, le-ltb, lt-ltb, ltb-true, cond-true, cond-false, cond_both}
-use Rattle.queues.specs.Calls.{place_of, written, wiped, between, onward, front, table_wiped, ends_taken, table_joined, ends_joined}
+use Rattle.std.proofs.lemmas.Bool.{cases_eq, le-ltb, lt-ltb, cond-true, cond-false}
+use Rattle.queues.specs.Calls.{place_of, written, between, onward, front, table_wiped, ends_taken, table_joined, ends_joined}
 use Rattle.queues.specs.Threads.{In, Distinct, leads, Linked, newest, ends_of, Chain, first, rest}
 use Rattle.queues.proofs.Entries.{append_in, all_in, distinct_append, newest_in, newest_push}
 
 -- a write at an entry below n, and what any write leaves
 pub written_in : (n : ℕ) (w : List ℕ) (e p : ℕ) → e < n → written n w e p ≡ set w e p
 written_in n w e p lt = cond-true (ltb e n) (set w e p) w (lt-ltb e n lt)
-
--- outside the queue or the table
-pub place_outside : (n : ℕ) (w : List ℕ) (e : ℕ) → (n ≤ e) ⊎ (length w ≤ e) → 0 ≡ place_of n w e
-place_outside n w e (inl le) = sym (cond-false (ltb e n) (get_or w e 0) 0 (le-ltb e n le))
-place_outside n w e (inr le) = cond_both (ltb e n) (get_or w e 0) 0 (λ v. 0 ≡ v) (λ _. sym (get_or_past w e 0 le)) (λ _. refl)
-
-pub written_outside : (n : ℕ) (w : List ℕ) (e p : ℕ) → (n ≤ e) ⊎ (length w ≤ e) → w ≡ written n w e p
-written_outside n w e p (inl le) = sym (cond-false (ltb e n) (set w e p) w (le-ltb e n le))
-written_outside n w e p (inr le) = cond_both (ltb e n) (set w e p) w (λ v. w ≡ v) (λ _. sym (set_past w e p le)) (λ _. refl)
-
-pub written_above : (n : ℕ) (w : List ℕ) (e p k : ℕ) → n ≤ k → get_or (written n w e p) k 0 ≡ get_or w k 0
-written_above n w e p k le =
-    cond_both (ltb e n) (set w e p) w (λ v. get_or v k 0 ≡ get_or w k 0)
-    (λ t. get_or-set_other w e k p 0 (λ s. omega (arith, ltb-true e n t)))
-    (λ _. refl)
 
 -- the place of a threaded entry is not 0
 pub linked_marked : (w l : List ℕ) (e : ℕ) → Linked w l → In e l → get_or w e 0 ≡ 0 → ⊥
@@ -136,20 +121,3 @@ chain_joined w m n l e c lt o =
 pub chain_put : (w : List ℕ) (m n : ℕ) (l : List ℕ) (e : ℕ) → Chain w m n l → e < m → (In e l → ⊥) → Chain (table_joined n (ends_of l) w e) m n (l ++ e ∷ [])
 chain_put w m n l e c lt o =
     rw (table_joined_is w l m n e c (omega (arith, c.started))) (chain_joined w m n l e c lt o)
-
--- clear
-wiped_past : (w : List ℕ) (e k : ℕ) → e ≤ k → get_or (replicate e 0 ++ drop e w) k 0 ≡ get_or w k 0
-wiped_past w e k le =
-    get_or-append_right (replicate e 0) (drop e w) e k 0 (length-replicate e 0) le ∙ (get_or-drop e w (k - e) 0 ∙ ap (λ j. get_or w j 0) (omega arith))
-
-pub wiped_above : (n : ℕ) (w w' : List ℕ) → w' ≡ wiped n w → (k : ℕ) → n ≤ k → get_or w' k 0 ≡ get_or w k 0
-wiped_above n w w' h k le = ap (λ v. get_or v k 0) h ∙ wiped_past w (min n (length w)) k (omega arith)
-
-pub wiped_below : (n : ℕ) (w w' : List ℕ) → w' ≡ wiped n w → (k : ℕ) → k < n → get_or w' k 0 ≡ 0
-wiped_below n w w' h k lt =
-    let e : ℕ = min n (length w) in
-    ap (λ v. get_or v k 0) h
-    ∙ ⊎_elim
-    (λ i. get_or_append_left (replicate e 0) (drop e w) 0 k (rw (length-replicate {A = ℕ} e 0) i) ∙ get_or-replicate e k 0 0 i)
-    (λ le. wiped_past w e k le ∙ get_or_past w k 0 (omega arith))
-    (cases_lt k e)

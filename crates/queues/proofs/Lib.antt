@@ -1,4 +1,5 @@
-mod Entries
-mod Chains
-mod Lists
+pub mod Chains
+pub mod Entries
+pub mod Lists
 pub mod Uses
+pub mod Within

@@ -1,15 +1,14 @@
 -- What the calls do to the list of those that wait, from what they leave in every case.
-use Rattle.std.proofs.Common.{◌≡◌, ℕ, ◌+◌, ◌-◌, ◌<◌, ◌≤◌, Bool, true, false, cond, not, ltb, ◌⊎◌, List, [], ◌∷◌, ◌++◌, length, get_or, is_some, Some, None, Decides, MatchBool, Option, sym, refl, ap, ◌∙◌, inl, inr, ⊎_elim, arith}
+use Rattle.std.proofs.Common.{◌≡◌, ℕ, ◌+◌, ◌-◌, ◌<◌, ◌≤◌, Bool, true, false, cond, ltb, ◌⊎◌, List, [], ◌∷◌, ◌++◌, length, get_or, Some, MatchBool, Option, sym, ap, ◌∙◌, inl, inr, ⊎_elim, arith}
 use Rattle.std.specs.List.{range_with_len}
 use Rattle.std.proofs.lemmas.List.{append_assoc}
 use Rattle.std.proofs.ByRecursion.{All-weaker}
-use Rattle.std.proofs.lemmas.Bool.{cases_lt, le-ltb, lt-ltb, ltb-true, eq-eqb, eqb-true, cond-true, cond-false, cond_both, and_from, and_parts, both_ways}
-use Rattle.queues.specs.declared.queue.Ends.{Ends}
+use Rattle.std.proofs.lemmas.Bool.{cases_lt, le-ltb, lt-ltb, ltb-true, eq-eqb, eqb-true, cond-true, cond-false, and_from, and_parts, both_ways}
 use Rattle.queues.specs.declared.queue.Queue.{Queue}
-use Rattle.queues.specs.Calls.{front, head_of, emptied, table_wiped, ends_taken, table_unthreaded, queue_unthreaded, table_taken, queue_taken, free, table_joined, table_threaded, queue_threaded}
+use Rattle.queues.specs.Calls.{front, head_of, ends_taken, table_unthreaded, queue_unthreaded, table_taken, queue_taken, free, table_threaded, queue_threaded}
 use Rattle.queues.specs.Threads.{In, Chain, Threads, run, first, rest}
 use Rattle.queues.proofs.Entries.{in_or_out, in_append, append_in, in_counting, counting_in, counting_more, counting_none}
-use Rattle.queues.proofs.Chains.{written_above, linked_marked, front_is, ends_taken_is, chain_taken, ends_joined_is, chain_put}
+use Rattle.queues.proofs.Chains.{linked_marked, front_is, ends_taken_is, chain_taken, ends_joined_is, chain_put}
 
 -- the list begins with the run, or is threaded as a whole
 list_fresh : (w : List ℕ) (q : Queue) (l : List ℕ) (t : Threads w q l) → q.fresh < q.size → l ≡ q.fresh ∷ (range_with_len (q.fresh + 1) (q.size - (q.fresh + 1)) ++ t.back)
@@ -26,16 +25,6 @@ head_first w q l t =
     (λ le. cond-false (ltb q.fresh q.size) (Some q.fresh) (front q.ends) (le-ltb _ _ le)
     ∙ (ap front t.ends ∙ (front_is t.back ∙ sym (ap first (list_threaded w q l t le)))))
     (cases_lt q.fresh q.size)
-
-pub head_lists : (q : Queue) (r : Option ℕ) → r ≡ head_of q → (w l : List ℕ) → Threads w q l → r ≡ first l
-head_lists q r e w l t = e ∙ head_first w q l t
-
-none_decides : (l : List ℕ) → Decides (not (is_some (first l))) (l ≡ [])
-none_decides [] = (λ _. refl, λ _. refl)
-none_decides (x ∷ l) = (λ e. cc, λ e. cc)
-
-pub empty_lists : (q : Queue) (r : Bool) → r ≡ not (is_some (head_of q)) → (w l : List ℕ) → Threads w q l → Decides r (l ≡ [])
-empty_lists q r e w l t = rw (e, head_first w q l t) (none_decides l)
 
 -- take
 taken_fresh : (w : List ℕ) (q : Queue) (l : List ℕ) → q.fresh < q.size → Threads w q l → Threads w (record { fresh = q.fresh + 1; size = q.size; ends = q.ends }) (rest l)
@@ -73,14 +62,6 @@ taken_lists w q l t =
 
 pub take_lists : (w w' : List ℕ) (q q' : Queue) (r : Option ℕ) → r ≡ head_of q → w' ≡ table_taken q w → q' ≡ queue_taken q w → (l : List ℕ) → Threads w q l → (r ≡ first l) × Threads w' q' (rest l)
 take_lists w w' q q' r er ew eq l t = (er ∙ head_first w q l t, rw (ew, eq) (taken_lists w q l t))
-
-unthreaded_above : (n : ℕ) (o : Option Ends) (w : List ℕ) (k : ℕ) → n ≤ k → get_or (table_wiped n o w) k 0 ≡ get_or w k 0
-unthreaded_above n None w k le = refl
-unthreaded_above n (Some s) w k le = written_above n w s.head 0 k le
-
-pub taken_above : (q : Queue) (w w' : List ℕ) → w' ≡ table_taken q w → (k : ℕ) → q.size ≤ k → get_or w' k 0 ≡ get_or w k 0
-taken_above q w w' e k le =
-    rw e (cond_both (ltb q.fresh q.size) w (table_unthreaded q w) (λ v. get_or v k 0 ≡ get_or w k 0) (λ _. refl) (λ _. unthreaded_above q.size q.ends w k le))
 
 -- put
 pub free_parts : (q : Queue) (w : List ℕ) (e : ℕ) → free q w e ≡ true → (e < q.fresh) × (get_or w e 0 ≡ 0)
@@ -129,24 +110,7 @@ put_lists w w' q q' e false er ew eq l t lt = (
   rw (ew, eq) t,
 )
 
-joined_above : (n : ℕ) (o : Option Ends) (w : List ℕ) (e k : ℕ) → n ≤ k → get_or (table_joined n o w e) k 0 ≡ get_or w k 0
-joined_above n None w e k le = written_above n w e 1 k le
-joined_above n (Some s) w e k le = written_above n _ e 1 k le ∙ written_above n w s.tail (e + 2) k le
-
-pub put_above : (q : Queue) (w w' : List ℕ) (e : ℕ) (r : Bool) → w' ≡ cond r (table_threaded q w e) w → (k : ℕ) → q.size ≤ k → get_or w' k 0 ≡ get_or w k 0
-put_above q w w' e true h k le = rw h (joined_above q.size q.ends w e k le)
-put_above q w w' e false h k le = ap (λ v. get_or v k 0) h
-
 -- rising, clear: nothing is threaded where each place is 0
 pub chain_none : (w : List ℕ) (m n : ℕ) → m ≤ n → n ≤ 131072 → n ≤ length w → ((k : ℕ) → k < n → get_or w k 0 ≡ 0) → Chain w m n []
 chain_none w m n s a b z =
     record { started = s; range = a; room = b; inside = tt; distinct = tt; linked = tt; others = λ e lt _. z e lt }
-
-pub clear_lists : (w : List ℕ) (q : Queue) → q.size ≤ 131072 → q.size ≤ length w → ((k : ℕ) → k < q.size → get_or w k 0 ≡ 0) → Threads w (emptied q) []
-clear_lists w q a b z =
-    record {
-      back = [];
-      list = sym (ap (λ r. r ++ []) (counting_none q.size q.size (omega arith)));
-      ends = refl;
-      chain = chain_none w q.size q.size (omega arith) a b z;
-    }

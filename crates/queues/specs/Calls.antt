@@ -1,8 +1,9 @@
 -- What each call answers and leaves, for every table and every queue: also where something else has written to the table.
 -- A place of the table is 0 (the entry is not threaded), 1 (it is, and is the last) or e + 2 (it is, and the next is e).
-use Rattle.std.specs.Prelude.{ℕ, ◌+◌, ◌-◌, min, Bool, cond, ◌&&◌, List, ◌++◌, length, drop, replicate, Some, None, Option, ◌==◌, nat_lt, slice_index, slice_set}
+use Rattle.std.specs.Prelude.{◌≡◌, ℕ, ◌+◌, ◌-◌, min, Bool, cond, ◌&&◌, List, ◌++◌, length, drop, replicate, Some, None, Option, ◌==◌, nat_lt, slice_index, slice_set}
 use Rattle.queues.specs.declared.queue.Ends.{Ends}
 use Rattle.queues.specs.declared.queue.Queue.{Queue}
+use Rattle.queues.specs.Within.{Within}
 
 -- Only the places of the entries below the size n are read and written: another reads as 0, and a write there changes nothing.
 -- So it is past the table's end too, by what `slice_index` and `slice_set` mean.
@@ -14,6 +15,11 @@ written n w e p = cond (nat_lt e n) (slice_set w e p) w
 
 abbrev pub between : ℕ → ℕ → Option Ends
 between h t = Some (record { head = h; tail = t })
+
+-- take, put, clear: the queue keeps its size, and the table its length and its places from that size on
+pub record StaysWithin (q : Queue) (w : List ℕ) (q' : Queue) (w' : List ℕ) : Type 0 where
+  pub size : q'.size ≡ q.size
+  pub table : Within q.size w w'
 
 -- rising
 abbrev pub rising_queue : ℕ → Queue

@@ -1,2 +1,4 @@
 pub mod Calls
+pub mod Places
 pub mod Threads
+pub mod Within

@@ -5,6 +5,7 @@ use Rattle.queues.specs.declared.queue.Ends.{Ends}
 use Rattle.queues.specs.declared.queue.Queue.{Queue}
 use Rattle.queues.specs.Calls.{between}
 
+-- an element of the list: by recursion, since Distinct and Linked go down the list, where the library's Contains goes by place
 abbrev pub In : ℕ → List ℕ → Type 0
 In e [] = ⊥
 In e (x ∷ l) = (x ≡ e) ⊎ In e l

@@ -1,30 +1,31 @@
-// The entries of a block that wait, first in, first out. At first all of them wait, in rising order; later they are put at the back one by one.
-// The entries that are put are threaded through a table that the caller lends, with one 32-bit place for each. So each call but `clear`
-// costs a few reads and writes, a start writes nothing, and nothing is allocated.
+//! A queue of the entries that wait, first in, first out.
+//!
+//! At first all of them wait, in rising order; later they are put at the back one by one. Those that are put are threaded through a
+//! table that the caller lends, with one 32-bit place for each. So each call but `clear` costs a few reads and writes, a start writes
+//! nothing, and nothing is allocated.
+//!
+//! No `VecDeque` or `Box`: no heap is allowed here, and the places are the caller's. The table comes with each call and is no field, so that
+//! a queue is `Copy` and the caller can use the table between calls.
 
-ghost use Rattle.std.specs.Prelude.{◌≡◌, ℕ, ◌<◌, ◌≤◌, not, List, [], ◌∷◌, ◌++◌, length, is_some, if◌then◌else◌, Decides, MatchBool, slice_index};
-ghost use Rattle.queues.specs.Calls.{place_of, written, onward, rising_queue, front, head_of, table_unthreaded, queue_unthreaded, table_taken, queue_taken, free, table_threaded, queue_threaded, wiped, emptied};
+ghost use Rattle.std.specs.Prelude.{◌≡◌, ℕ, ◌<◌, ◌≤◌, ◌^◌, ◌↔◌, IsSome, IfSome, not, List, [], ◌∷◌, ◌++◌, length, is_some, if◌then◌else◌, IsTrue, MatchBool, slice_index};
+ghost use Rattle.queues.specs.Calls.{StaysWithin, written, rising_queue, front, head_of, table_unthreaded, queue_unthreaded, table_taken, queue_taken, free, table_threaded, queue_threaded, wiped, emptied};
+ghost use Rattle.queues.specs.Places.{code_of};
 ghost use Rattle.queues.specs.Threads.{In, Threads, first, rest};
 ghost use Rattle.std.specs.List.{range_with_len};
 
-// A queue is for at most this many entries, numbered from 0: one at or past it is never put.
+use crate::place::Place;
+
+/// A queue is for at most this many entries, numbered from 0: one at or past it is never put.
 pub const MOST: usize = 131_072;
 
-// What the place of an entry says: it is not threaded; it is, and is the last; or, `e + NEXT`, it is, and the next is `e`.
-const IDLE: u32 = 0;
-
-const LAST: u32 = 1;
-
-const NEXT: u32 = 2;
-
-// The oldest and the newest entry of the threaded ones.
+/// The oldest and the newest entry of the threaded ones.
 #[derive(Clone, Copy)]
 struct Ends {
     head: usize,
     tail: usize,
 }
 
-// First wait the entries `fresh .. size`, which were not taken yet, in rising order. After them wait the threaded ones, if any.
+/// First wait the entries `fresh .. size`, which were not taken yet, in rising order. After them wait the threaded ones, if any.
 #[derive(Clone, Copy)]
 pub struct Queue {
     fresh: usize,
@@ -32,33 +33,19 @@ pub struct Queue {
     ends: Option<Ends>,
 }
 
-// The ends once an entry with this place is taken off the front.
-fn past(place: u32, tail: usize) -> Option<Ends>
-    ensures { result ≡ onward place tail }
-{
-    if place < NEXT {
-        None
-    } else {
-        Some(Ends {
-            head: (place - NEXT) as usize,
-            tail,
-        })
-    }
-}
-
-// Writes 0 at the places below `size`.
+/// Makes the first `size` places of the table idle.
 fn wipe(waiting: &mut [u32], size: usize)
     ensures { waiting.new ≡ wiped size waiting.old }
 {
     let end = size.min(waiting.len());
-    waiting[..end].fill(IDLE);
+    waiting[..end].fill(Place::Idle.code());
 }
 
 impl Queue {
-    // A queue in which the entries below `size` wait in rising order. It suits a table that is 0 at each of them.
+    /// A queue in which the entries below `size` wait in rising order. It suits a table that is 0 at each of them.
     pub fn rising(size: usize) -> Queue
         ensures value { result ≡ rising_queue size }
-        ensures lists { (w : List ℕ) → size ≤ length w → size ≤ 131072 → ((k : ℕ) → k < size → slice_index w k ≡ 0) → Threads w result (range_with_len 0 size) }
+        ensures lists { (w : List ℕ) → size ≤ length w → size ≤ MOST → ((k : ℕ) → k < size → slice_index w k ≡ 0) → Threads w result (range_with_len 0 size) }
     {
         Queue {
             fresh: 0,
@@ -67,15 +54,17 @@ impl Queue {
         }
     }
 
-    // Whether no entry waits.
+    /// Whether no entry waits.
     pub fn is_empty(&self) -> bool
         ensures value { result ≡ not (is_some (head_of self.now)) }
-        ensures lists { (w l : List ℕ) → Threads w self.now l → Decides result (l ≡ []) }
+        ensures lists { (w l : List ℕ) → Threads w self.now l → IsTrue result ↔ (l ≡ []) }
     {
         self.head().is_none()
     }
 
-    // The entry that `take` gives next. Where something else wrote to the table, it can be any number, so the caller tests it.
+    /// The entry that `take` gives next.
+    ///
+    /// Where something else wrote to the table, it can be any number, so the caller tests it.
     pub fn head(&self) -> Option<usize>
         ensures value { result ≡ head_of self.now }
         ensures lists { (w l : List ℕ) → Threads w self.now l → result ≡ first l }
@@ -83,80 +72,84 @@ impl Queue {
         if self.fresh < self.size {
             Some(self.fresh)
         } else {
-            Some(self.ends?.head)
+            self.ends.map(|ends| ends.head)
         }
     }
 
-    // What the table says of an entry: outside the queue or the table, that it is not threaded.
-    fn place(&self, waiting: &[u32], entry: usize) -> u32
-        ensures { result ≡ place_of self.now.size waiting.now entry }
+    /// What the table says of an entry, if it is one of the queue's and has a place.
+    fn place(&self, waiting: &[u32], entry: usize) -> Option<Place>
+        ensures inside { IsSome result ↔ ((entry < self.now.size) × (entry < length waiting.now)) }
+        ensures code { IfSome result (λ place. code_of place ≡ slice_index waiting.now entry) }
     {
-        if entry < self.size && entry < waiting.len() {
-            waiting[entry]
-        } else {
-            IDLE
+        if entry >= self.size {
+            return None;
         }
+        waiting.get(entry).map(|code| Place::from(*code))
     }
 
-    // Writes an entry's place; outside the queue or the table it writes nothing.
-    fn mark(&self, waiting: &mut [u32], entry: usize, place: u32)
-        ensures { waiting.new ≡ written self.now.size waiting.old entry place }
+    /// Writes an entry's place; outside the queue or the table it writes nothing.
+    fn mark(&self, waiting: &mut [u32], entry: usize, place: Place)
+        requires { code_of place < 2 ^ 32 }
+        ensures { waiting.new ≡ written self.now.size waiting.old entry (code_of place) }
     {
+        // No `get_mut`: of a slice that is written through it the library's contract says only the length, so the clause stays open.
         if entry < self.size && entry < waiting.len() {
-            waiting[entry] = place;
+            waiting[entry] = place.code();
         }
     }
 
-    // Whether an entry can be put: it is one of the queue's, has a place, and does not wait.
+    /// Whether an entry can be put: it is one of the queue's, has a place, and does not wait.
     fn is_free(&self, waiting: &[u32], entry: usize) -> bool
         ensures { result ≡ free self.now waiting.now entry }
     {
         entry < self.fresh
-            && entry < self.size
             && entry < MOST
-            && entry < waiting.len()
-            && waiting[entry] == IDLE
+            && matches!(self.place(waiting, entry), Some(Place::Idle))
     }
 
-    // Takes the first of the threaded entries, and wipes its place.
+    /// Takes the first of the threaded entries, and makes its place idle.
     fn unthread(&mut self, waiting: &mut [u32]) -> Option<usize>
         ensures value { result ≡ front self.old.ends }
         ensures table { waiting.new ≡ table_unthreaded self.old waiting.old }
         ensures queue { self.new ≡ queue_unthreaded self.old waiting.old }
     {
         let Ends { head, tail } = self.ends?;
-        let place = self.place(waiting, head);
-        self.mark(waiting, head, IDLE);
-        self.ends = past(place, tail);
+        self.ends = match self.place(waiting, head) {
+            Some(Place::Before(next)) => Some(Ends { head: next, tail }),
+            _ => None,
+        };
+        self.mark(waiting, head, Place::Idle);
         Some(head)
     }
 
-    // Threads an entry behind the others. Its place is written last, so that it says "last" even where the tail's place is the same.
+    /// Threads an entry behind the others.
+    ///
+    /// Its place is written last, so that it says "last" even where the tail's place is the same.
     fn thread(&mut self, waiting: &mut [u32], entry: usize)
-        requires { entry < 131072 }
+        requires { entry < MOST }
         ensures table { waiting.new ≡ table_threaded self.old waiting.old entry }
         ensures queue { self.new ≡ queue_threaded self.old entry }
     {
         let head = match self.ends {
             None => entry,
             Some(Ends { head, tail }) => {
-                self.mark(waiting, tail, entry as u32 + NEXT);
+                self.mark(waiting, tail, Place::Before(entry));
                 head
             }
         };
-        self.mark(waiting, entry, LAST);
+        self.mark(waiting, entry, Place::Last);
         self.ends = Some(Ends { head, tail: entry });
     }
 
-    // Takes the entry that waits longest, if any does. One that was threaded has its place wiped; no other place changes.
-    // After it comes what its place says: where something else wrote there, that can lie outside the queue, and the queue is empty after it.
+    /// Takes the entry that waits longest, if any does.
+    ///
+    /// One that was threaded has its place wiped; no other place changes. After it comes what its place says: where something else wrote
+    /// there, that can lie outside the queue, and the queue is empty after it.
     pub fn take(&mut self, waiting: &mut [u32]) -> Option<usize>
         ensures value { result ≡ head_of self.old }
         ensures table { waiting.new ≡ table_taken self.old waiting.old }
         ensures queue { self.new ≡ queue_taken self.old waiting.old }
-        ensures size { self.new.size ≡ self.old.size }
-        ensures len { length waiting.new ≡ length waiting.old }
-        ensures above { (k : ℕ) → self.old.size ≤ k → slice_index waiting.new k ≡ slice_index waiting.old k }
+        ensures stays { StaysWithin self.old waiting.old self.new waiting.new }
         ensures lists { (l : List ℕ) → Threads waiting.old self.old l → (result ≡ first l) × Threads waiting.new self.new (rest l) }
     {
         if self.fresh < self.size {
@@ -167,14 +160,12 @@ impl Queue {
         self.unthread(waiting)
     }
 
-    // Puts an entry at the back, and answers whether it did: not where it waits already, or is none of the queue's or has no place.
+    /// Puts an entry at the back, and answers whether it did: not where it waits already, or is none of the queue's or has no place.
     pub fn put(&mut self, waiting: &mut [u32], entry: usize) -> bool
         ensures value { result ≡ free self.old waiting.old entry }
         ensures table { waiting.new ≡ (if result then table_threaded self.old waiting.old entry else waiting.old) }
         ensures queue { self.new ≡ (if result then queue_threaded self.old entry else self.old) }
-        ensures size { self.new.size ≡ self.old.size }
-        ensures len { length waiting.new ≡ length waiting.old }
-        ensures above { (k : ℕ) → self.old.size ≤ k → slice_index waiting.new k ≡ slice_index waiting.old k }
+        ensures stays { StaysWithin self.old waiting.old self.new waiting.new }
         ensures lists { (l : List ℕ) → Threads waiting.old self.old l → entry < self.old.size → MatchBool result ((In entry l → ⊥) × Threads waiting.new self.new (l ++ entry ∷ [])) (In entry l × Threads waiting.new self.new l) }
     {
         if !self.is_free(waiting, entry) {
@@ -184,14 +175,12 @@ impl Queue {
         true
     }
 
-    // Empties the queue, and wipes the places of all its entries, also of those that the ends do not lead to. The size stays.
+    /// Empties the queue, and wipes the places of all its entries, also of those that the ends do not lead to.
     pub fn clear(&mut self, waiting: &mut [u32])
         ensures below { (k : ℕ) → k < self.old.size → slice_index waiting.new k ≡ 0 }
-        ensures above { (k : ℕ) → self.old.size ≤ k → slice_index waiting.new k ≡ slice_index waiting.old k }
-        ensures size { self.new.size ≡ self.old.size }
-        ensures len { length waiting.new ≡ length waiting.old }
+        ensures stays { StaysWithin self.old waiting.old self.new waiting.new }
         ensures queue { self.new ≡ emptied self.old }
-        ensures lists { self.old.size ≤ length waiting.old → self.old.size ≤ 131072 → Threads waiting.new self.new [] }
+        ensures lists { self.old.size ≤ length waiting.old → self.old.size ≤ MOST → Threads waiting.new self.new [] }
     {
         wipe(waiting, self.size);
         self.fresh = self.size;

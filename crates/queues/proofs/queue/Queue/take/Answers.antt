@@ -1,27 +1,9 @@
 use Rattle.std.proofs.Common.{rules}
-use Rattle.queues.proofs.Lists.{take_lists, taken_above}
+use Rattle.queues.proofs.Lists.{take_lists}
 use Rattle.queues.proofs.queue.Queue.take.Goals as goal
 
-pub returns-then-self : goal.returns-then-self
-returns-then-self c =
-    record {
-      value = search rules;
-      table = search rules;
-      queue = search rules;
-      size = search rules;
-      len = search rules;
-      above = search rules;
-      lists = take_lists _ _ _ _ _ (search rules) (search rules) (search rules);
-    }
+pub returns-then-self-clause-lists : goal.returns-then-self-clause-lists
+returns-then-self-clause-lists c = take_lists _ _ _ _ _ (search rules) (search rules) (search rules)
 
-pub returns : goal.returns
-returns c =
-    record {
-      value = search rules;
-      table = search rules;
-      queue = search rules;
-      size = search rules;
-      len = search rules;
-      above = taken_above c.args.self.now _ _ (search rules);
-      lists = take_lists _ _ _ _ _ (search rules) (search rules) (search rules);
-    }
+pub returns-clause-lists : goal.returns-clause-lists
+returns-clause-lists c = take_lists _ _ _ _ _ (search rules) (search rules) (search rules)

@@ -1,6 +1,0 @@
-use Rattle.std.proofs.Common.{inl, inr, ⊎_elim}
-use Rattle.queues.proofs.Chains.{written_outside}
-use Rattle.queues.proofs.queue.Queue.mark.Goals as goal
-
-pub returns-else-entry-self : goal.returns-else-entry-self
-returns-else-entry-self c = written_outside _ _ _ _ (⊎_elim (λ h. inr h.1) inl c.else-entry-self.either)
