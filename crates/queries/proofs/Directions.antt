@@ -1,13 +1,10 @@
 -- Which tables are admitted, and the rules on directions.
-use Rattle.std.proofs.Common.{◌≡◌, ℕ, zero, suc, ◌<◌, ◌≤◌, length, get_or, unwrap_or, sym, refl, ap, ◌∙◌, subst, arith}
+use Rattle.std.proofs.Common.{◌≡◌, ℕ, ◌<◌, ◌≤◌, length, get_or, unwrap_or, sym, ap, ◌∙◌, subst, arith}
 use Rattle.std.proofs.lemmas.List.{length-map, get_or-map}
-use Rattle.queries.specs.declared.term.Term.TheVariants.{Mark, Lowest}
+use Rattle.queries.specs.declared.term.Term.TheVariants.{Lowest}
 use Rattle.queries.specs.Admission.{Admissible, Fits}
-use Rattle.queries.specs.Operands.{operands_of}
-use Rattle.queries.specs.Queries.{lowest_alone}
 use Rattle.queries.specs.Rows.{Rows, no_row, block_in, term_in, told}
-use Rattle.queries.specs.Table.{Table, Admitted, Directed, Reads, term_at, solution_at, blocks_terms, no_block}
-use Rattle.queries.proofs.Operands.{none_read, turn_read}
+use Rattle.queries.specs.Table.{Table, Admitted, Directed, solution_at, blocks_terms, no_block}
 
 -- a direction goes by the block, and a turn reads an earlier block, so an admitted query is directed
 pub directed : {q : Table} → Admitted q → Directed q
@@ -43,27 +40,3 @@ told_admitted_lem r ok = record {
         let there : b < length r.blocks = subst (λ n. b < n) (length-map r.blocks block_in) h in
         let same : blocks_terms (told r) b ≡ (get_or r.blocks b no_row).terms = ap (λ k. k.terms) (get_or-map block_in r.blocks b no_row no_block there) in
         rw same (ok.framed.blocks b there).0
-
--- the lowest term alone is all terms, and in all blocks
-only_lowest : (i : ℕ) → term_at lowest_alone i ≡ Lowest
-only_lowest zero = refl
-only_lowest (suc i) = refl
-
-reads_nothing : (i j : ℕ) → Reads (term_at lowest_alone i) j → ⊥
-reads_nothing i j r = none_read (term_at lowest_alone i) (ap operands_of (only_lowest i)) j r
-
-pub lowest_admitted : Admitted lowest_alone
-lowest_admitted = record {
-  sized = record { few_tags = omega arith; some_term = omega arith; few_terms = omega arith; no_empty_block = full; all_dealt = refl };
-  tag_stands = λ i h a e. absurd (no_lowest a (sym (only_lowest i) ∙ e));
-  operands_stand = λ i h j r. absurd (reads_nothing i j r);
-  no_later_block = λ i h j r. absurd (reads_nothing i j r);
-  turn_earlier = λ i h a e. absurd (reads_nothing i a (turn_read (term_at lowest_alone i) a e));
-}
-  where
-    full : (b : ℕ) → b < 1 → 1 ≤ blocks_terms lowest_alone b
-    full zero h = omega arith
-    full (suc b) h = absurd (omega arith)
-
-    no_lowest : (a : ℕ) → Lowest ≡ Mark a → ⊥
-    no_lowest a e = let z : ◌≡◌ {A = ℕ} 0 1 = cc in omega arith

@@ -1,5 +1,6 @@
 pub mod Deals
 pub mod Directions
+pub mod Kept
 pub mod Listed
 pub mod Operands
 pub mod Questions

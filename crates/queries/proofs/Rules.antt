@@ -1,5 +1,5 @@
 -- The rules for one term, by its row and by a list of the block of each term.
-use Rattle.std.proofs.Common.{◌≡◌, ℕ, ◌<◌, true, false, List, length, get_or, is_some, Some, None, unwrap_or, sym, ap, ◌∙◌, subst, arith}
+use Rattle.std.proofs.Common.{◌≡◌, ℕ, ◌<◌, true, false, length, get_or, is_some, Some, Result, Ok, Err, MatchResult, unwrap_or, sym, ap, ◌∙◌, subst}
 use Rattle.std.proofs.lemmas.List.{length-map, get_or-map, get_or_default}
 use Rattle.std.proofs.lemmas.Bool.{false≢true}
 use Rattle.queries.specs.declared.refusal.QueryRefusal.{QueryRefusal}
@@ -7,21 +7,17 @@ use Rattle.queries.specs.declared.refusal.QueryRefusal.TheVariants.{Sizes, BadBl
 use Rattle.queries.specs.declared.rows.TermRow.{TermRow}
 use Rattle.queries.specs.declared.term.Term.{Term}
 use Rattle.queries.specs.declared.term.Term.TheVariants.{Lowest}
-use Rattle.queries.specs.Admission.{Stands, Fits, Framed, FineBefore, RefusedFor}
-use Rattle.queries.specs.Checks.{Assigned, standing, reading_up_to, TurnsBefore, FirstFaulty}
+use Rattle.queries.specs.Admission.{Stands, Fits, Framed, FineBefore, Admissible, RefusedFor}
+use Rattle.queries.specs.Checks.{standing, reading_up_to, TurnsBefore, FirstFaulty}
 use Rattle.queries.specs.Rows.{Rows, term_in, told}
-use Rattle.queries.specs.Table.{Reads, total, term_at, block_of, NoLaterBlock, TurnEarlier}
-use Rattle.queries.proofs.Operands.{turn_read}
+use Rattle.queries.specs.Table.{Reads, term_at, block_of, NoLaterBlock, TurnEarlier}
 use Rattle.queries.proofs.Tested.{StandsAlone, ReadsUpTo, standing_decided, reading_decided}
 
 -- the row that a reader of rows sees past the end
-abbrev none : TermRow
+abbrev pub none : TermRow
 none = record { kind = 0; a = 0; b = 0 }
 
 module _ (r : Rows) (i : ℕ) (here : i < length r.terms) where
-  pub no_stand : term_in (get_or r.terms i none) ≡ None → Stands r i → ⊥
-  no_stand e s = false≢true (ap is_some (sym e) ∙ ap (λ row. is_some (term_in row)) (get_or_default r.terms i none _ here) ∙ s.known)
-
   module _ (t : Term) (is : term_in (get_or r.terms i none) ≡ Some t) where
     told_term : term_at (told r) i ≡ t
     told_term = get_or-map (λ row. unwrap_or (term_in row) Lowest) r.terms i none Lowest here ∙ ap (λ o. unwrap_or o Lowest) is
@@ -51,21 +47,20 @@ module _ (r : Rows) (i : ℕ) (here : i < length r.terms) where
     pub stands_not : false ≡ standing r.tags (length r.terms) t → Stands r i → ⊥
     stands_not other s = false≢true (other ∙ (standing_decided r.tags (length r.terms) t).1 (stands_here s))
 
-    module _ (assigned : List ℕ) (right : Assigned r assigned) (s : Stands r i) where
-      pub later_there : true ≡ reading_up_to assigned (get_or assigned i 0) t → NoLaterBlock (told r) i
-      later_there told_so j reads = let h = (reading_decided assigned (get_or assigned i 0) t).0 (sym told_so) in let reads' = subst (λ u. Reads u j) told_term reads in omega (arith, right j ((stands_here s).operands j reads'), right i here, h j reads')
+    pub later_there : true ≡ reading_up_to (block_of (told r)) (block_of (told r) i) t → NoLaterBlock (told r) i
+    later_there told_so j reads = (reading_decided (block_of (told r)) (block_of (told r) i) t).0 (sym told_so) j (subst (λ u. Reads u j) told_term reads)
 
-      later_here : NoLaterBlock (told r) i → ReadsUpTo assigned (get_or assigned i 0) t
-      later_here h j reads = omega (arith, right j ((stands_here s).operands j reads), right i here, h j (subst (λ u. Reads u j) (sym told_term) reads))
+    later_here : NoLaterBlock (told r) i → ReadsUpTo (block_of (told r)) (block_of (told r) i) t
+    later_here h j reads = h j (subst (λ u. Reads u j) (sym told_term) reads)
 
-      pub later_not : false ≡ reading_up_to assigned (get_or assigned i 0) t → NoLaterBlock (told r) i → ⊥
-      later_not other h = false≢true (other ∙ (reading_decided assigned (get_or assigned i 0) t).1 (later_here h))
+    pub later_not : false ≡ reading_up_to (block_of (told r)) (block_of (told r) i) t → NoLaterBlock (told r) i → ⊥
+    later_not other h = false≢true (other ∙ (reading_decided (block_of (told r)) (block_of (told r) i) t).1 (later_here h))
 
-      pub turn_there : TurnsBefore assigned (get_or assigned i 0) t → TurnEarlier (told r) i
-      turn_there h a e = let e' = sym told_term ∙ e in omega (arith, right a ((stands_here s).operands a (turn_read t a e')), right i here, h a e')
+    pub turn_there : TurnsBefore (block_of (told r)) (block_of (told r) i) t → TurnEarlier (told r) i
+    turn_there h a e = h a (sym told_term ∙ e)
 
-      pub turn_here : TurnEarlier (told r) i → TurnsBefore assigned (get_or assigned i 0) t
-      turn_here h a e = omega (arith, right a ((stands_here s).operands a (turn_read t a e)), right i here, h a (told_term ∙ e))
+    pub turn_here : TurnEarlier (told r) i → TurnsBefore (block_of (told r)) (block_of (told r) i) t
+    turn_here h a e = h a (told_term ∙ e)
 
 -- a fault in a term of a table whose frame is right
 module _ (r : Rows) (framed : Framed r) where
@@ -87,6 +82,7 @@ module _ (r : Rows) (framed : Framed r) where
       subst (λ k. FineBefore r k × Stands r k × NoLaterBlock (told r) k × (TurnEarlier (told r) k → ⊥)) (sym f.0) (fine first.term first.there first.before, f.1, f.2, f.3)
   refused NoMemory first = absurd first.faulty
 
-  -- a list that has the block of each term that is dealt
-  pub assigned_dealt : (assigned : List ℕ) → ((i : ℕ) → i < total (told r).blocks → get_or assigned i 0 ≡ block_of (told r) i) → Assigned r assigned
-  assigned_dealt assigned h i there = h i (subst (λ n. i < n) (sym framed.sum) there)
+  -- what the terms of such a table show
+  pub checked : (result : Result (Unit {0}) QueryRefusal) → MatchResult result (λ _. (i : ℕ) → i < length r.terms → Fits r i) (λ e. FirstFaulty r e) → MatchResult result (λ _. Admissible r) (λ e. RefusedFor r e)
+  checked (Ok _) h = record { framed = framed; terms = h }
+  checked (Err e) h = refused e h

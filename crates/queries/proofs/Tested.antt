@@ -1,5 +1,5 @@
 -- Tests of a term's operands, and what they decide.
-use Rattle.std.proofs.Common.{◌≡◌, ℕ, ◌<◌, ◌≤◌, Bool, true, ltb, leb, List, get_or, Decides, sym, refl, ap, ◌∙◌}
+use Rattle.std.proofs.Common.{◌≡◌, ℕ, ◌<◌, ◌≤◌, Bool, true, ltb, leb, Decides, sym, refl, ap, ◌∙◌}
 use Rattle.std.proofs.lemmas.Bool.{and_parts, and_from, ltb-true, lt-ltb, leb-true, le-leb}
 use Rattle.queries.specs.declared.term.Term.{Term}
 use Rattle.queries.specs.declared.term.Term.TheVariants.{Mark, Turn, Meet, Join, SomeNeighbour, EveryNeighbour, Lowest, Highest}
@@ -12,8 +12,8 @@ pub record StandsAlone (tags count : ℕ) (term : Term) : Type 0 where
   pub tag : (a : ℕ) → term ≡ Mark a → a < tags
   pub operands : (j : ℕ) → Reads term j → j < count
 
-abbrev pub ReadsUpTo : List ℕ → ℕ → Term → Type 0
-ReadsUpTo assigned block term = (j : ℕ) → Reads term j → get_or assigned j 0 ≤ block
+abbrev pub ReadsUpTo : (ℕ → ℕ) → ℕ → Term → Type 0
+ReadsUpTo blocks block term = (j : ℕ) → Reads term j → blocks j ≤ block
 
 -- a test of both operands is one of all that is read
 module _ (test : ℕ → Bool) where
@@ -52,8 +52,8 @@ standing_decided tags count t = (
   (λ s. both (λ k. ltb k count) t (tag_below t tags) (tag_there t tags s.tag) (λ j r. lt-ltb j count (s.operands j r))),
 )
 
-pub reading_decided : (assigned : List ℕ) (block : ℕ) (t : Term) → Decides (reading_up_to assigned block t) (ReadsUpTo assigned block t)
-reading_decided assigned block t = (
-  (λ e j r. leb-true (get_or assigned j 0) block (each (λ k. leb (get_or assigned k 0) block) true e r)),
-  (λ h. both (λ k. leb (get_or assigned k 0) block) t true refl (λ j r. le-leb (get_or assigned j 0) block (h j r))),
+pub reading_decided : (blocks : ℕ → ℕ) (block : ℕ) (t : Term) → Decides (reading_up_to blocks block t) (ReadsUpTo blocks block t)
+reading_decided blocks block t = (
+  (λ e j r. leb-true (blocks j) block (each (λ k. leb (blocks k) block) true e r)),
+  (λ h. both (λ k. leb (blocks k) block) t true refl (λ j r. le-leb (blocks j) block (h j r))),
 )

@@ -2,8 +2,7 @@
 use Rattle.std.specs.Prelude.{◌≡◌, ℕ, ◌<◌, ◌≤◌, true, length, is_some, slice_index_or}
 use Rattle.queries.specs.declared.refusal.QueryRefusal.{QueryRefusal}
 use Rattle.queries.specs.declared.refusal.QueryRefusal.TheVariants.{Sizes, BadBlock, BlockSum, BadTerm, LaterBlock, OwnTurn, NoMemory}
-use Rattle.queries.specs.declared.rows.BlockRow.{BlockRow}
-use Rattle.queries.specs.Rows.{Rows, no_row, term_in, told}
+use Rattle.queries.specs.Rows.{Rows, RowFits, no_row, term_in, told}
 use Rattle.queries.specs.Table.{total, TagStands, OperandsStand, NoLaterBlock, TurnEarlier}
 
 -- at most 16 tags, and 1 to 64 terms
@@ -11,10 +10,6 @@ pub record SizesFit (r : Rows) : Type 0 where
   pub few_tags : r.tags ≤ 16
   pub some_term : 1 ≤ length r.terms
   pub few_terms : length r.terms ≤ 64
-
--- a block has a term, and its kind is 0 or 1
-abbrev pub RowFits : BlockRow → Type 0
-RowFits row = (1 ≤ row.terms) × (row.kind ≤ 1)
 
 abbrev pub BlockFits : Rows → ℕ → Type 0
 BlockFits r b = RowFits (slice_index_or r.blocks b no_row)

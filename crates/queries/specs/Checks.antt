@@ -1,5 +1,5 @@
 -- What the parts of admission find.
-use Rattle.std.specs.Prelude.{◌≡◌, ℕ, ◌<◌, Bool, true, ◌&&◌, ltb, List, length, Some, None, Option, nat_le, nat_lt, slice_index}
+use Rattle.std.specs.Prelude.{◌≡◌, ℕ, ◌<◌, Bool, true, ◌&&◌, ltb, length, Some, None, Option, nat_le, nat_lt}
 use Rattle.queries.specs.declared.refusal.QueryRefusal.{QueryRefusal}
 use Rattle.queries.specs.declared.refusal.QueryRefusal.TheVariants.{Sizes, BadBlock, BlockSum, BadTerm, LaterBlock, OwnTurn, NoMemory}
 use Rattle.queries.specs.declared.term.Operands.{Operands}
@@ -8,11 +8,7 @@ use Rattle.queries.specs.declared.term.Term.TheVariants.{Mark, Turn, Meet, Join,
 use Rattle.queries.specs.Admission.{Stands, Fits}
 use Rattle.queries.specs.Operands.{operands_of}
 use Rattle.queries.specs.Rows.{Rows, told}
-use Rattle.queries.specs.Table.{block_of, NoLaterBlock, TurnEarlier}
-
--- a list has the block of each term
-abbrev pub Assigned : Rows → List ℕ → Type 0
-Assigned r assigned = (i : ℕ) → i < length r.terms → slice_index assigned i ≡ block_of (told r) i
+use Rattle.queries.specs.Table.{NoLaterBlock, TurnEarlier}
 
 -- a test of both operands, or another where there are none
 abbrev pub both_in : Option Operands → Bool → (ℕ → Bool) → Bool
@@ -33,13 +29,15 @@ tag_below Highest tags = true
 abbrev pub standing : ℕ → ℕ → Term → Bool
 standing tags count term = both_in (operands_of term) (tag_below term tags) (λ j. ltb j count)
 
+-- below, blocks tells the block of each term
+
 -- whether a term reads no block past this one
-abbrev pub reading_up_to : List ℕ → ℕ → Term → Bool
-reading_up_to assigned block term = both_in (operands_of term) true (λ j. nat_le (slice_index assigned j) block)
+abbrev pub reading_up_to : (ℕ → ℕ) → ℕ → Term → Bool
+reading_up_to blocks block term = both_in (operands_of term) true (λ j. nat_le (blocks j) block)
 
 -- a turn reads a block before this one
-abbrev pub TurnsBefore : List ℕ → ℕ → Term → Type 0
-TurnsBefore assigned block term = (a : ℕ) → term ≡ Turn a → slice_index assigned a < block
+abbrev pub TurnsBefore : (ℕ → ℕ) → ℕ → Term → Type 0
+TurnsBefore blocks block term = (a : ℕ) → term ≡ Turn a → blocks a < block
 
 -- the first rule that term i breaks
 abbrev pub Faulty : Rows → ℕ → QueryRefusal → Type 0

@@ -1,5 +1,6 @@
 pub mod Admission
 pub mod Checks
+pub mod Entries
 pub mod Operands
 pub mod Queries
 pub mod Refusals

@@ -5,10 +5,11 @@ use Rattle.queries.specs.declared.block.Solution.TheVariants.{Least}
 use Rattle.queries.specs.declared.block.Span.{Span}
 use Rattle.queries.specs.declared.query.Query.{Query}
 use Rattle.queries.specs.declared.term.Term.TheVariants.{Lowest}
+use Rattle.queries.specs.Entries.{kept}
 use Rattle.queries.specs.Table.{Table, table, Reads, block_of, term_at}
 
 abbrev pub table_of : Query → Table
-table_of q = table q.tags (vec_items q.blocks) (vec_items q.terms)
+table_of q = kept q.tags (vec_items q.blocks) (vec_items q.terms)
 
 -- one least block of one lowest term, and no tag
 abbrev pub lowest_alone : Table

@@ -1,12 +1,15 @@
 -- What the rows of a query table stand for.
-use Rattle.std.specs.Prelude.{ℕ, cond, List, [], ◌∷◌, map, Some, None, Option, ◌==◌}
+use Rattle.std.specs.Prelude.{◌≡◌, ℕ, ◌≤◌, cond, List, [], ◌∷◌, map, Some, None, Option, Result, MatchResult, ◌==◌}
 use Rattle.std.specs.List.{slice_get}
 use Rattle.std.specs.Option.{unwrap_or}
 use Rattle.shapes.specs.declared.axis.Axis.TheVariants.{First, Next, Owner, Previous}
 use Rattle.queries.specs.declared.block.Block.{Block}
 use Rattle.queries.specs.declared.block.Solution.{Solution}
 use Rattle.queries.specs.declared.block.Solution.TheVariants.{Least, Greatest}
+use Rattle.queries.specs.declared.rows.BadBlockRow.{BadBlockRow}
+use Rattle.queries.specs.declared.rows.BadTermRow.{BadTermRow}
 use Rattle.queries.specs.declared.rows.BlockRow.{BlockRow}
+use Rattle.queries.specs.declared.rows.QueryTable.{QueryTable}
 use Rattle.queries.specs.declared.rows.TermRow.{TermRow}
 use Rattle.queries.specs.declared.term.Term.{Term}
 use Rattle.queries.specs.declared.term.Term.TheVariants.{Mark, Turn, Meet, Join, SomeNeighbour, EveryNeighbour, Lowest, Highest}
@@ -23,6 +26,9 @@ no_row = record { kind = 0; terms = 0 }
 
 abbrev pub rows : ℕ → List BlockRow → List TermRow → Rows
 rows tags blocks terms = record { tags = tags; blocks = blocks; terms = terms }
+
+abbrev pub rows_of : QueryTable → Rows
+rows_of table = rows table.tags table.blocks.now table.terms.now
 
 -- a kind by the operands that it uses
 pub data Form : Type 0 where
@@ -58,6 +64,18 @@ solutions = Least ∷ (Greatest ∷ [])
 
 abbrev pub block_in : BlockRow → Block
 block_in row = record { solution = unwrap_or (slice_get solutions row.kind) Least; terms = row.terms }
+
+-- a block has a term, and its kind is 0 or 1
+abbrev pub RowFits : BlockRow → Type 0
+RowFits row = (1 ≤ row.terms) × (row.kind ≤ 1)
+
+-- the block of a row that fits, and an error for another
+abbrev pub TellsBlock : BlockRow → Result Block BadBlockRow → Type 0
+TellsBlock row r = MatchResult r (λ block. RowFits row × (block ≡ block_in row)) (λ _. RowFits row → ⊥)
+
+-- the term of a row, and an error where it stands for none
+abbrev pub TellsTerm : TermRow → Result Term BadTermRow → Type 0
+TellsTerm row r = MatchResult r (λ term. term_in row ≡ Some term) (λ _. term_in row ≡ None)
 
 -- the query that a table tells, with the lowest term in place of one that a row does not tell
 abbrev pub told : Rows → Table

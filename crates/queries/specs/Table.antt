@@ -97,6 +97,6 @@ pub data Reaches (q : Table) (tag : ℕ) : ℕ → Type 0 where
   by_mark : (i : ℕ) → i < length q.terms → term_at q i ≡ Mark tag → Reaches q tag (block_of q i)
   by_reading : (i j : ℕ) → i < length q.terms → Reads (term_at q i) j → Reaches q tag (block_of q j) → Reaches q tag (block_of q i)
 
--- a test answers yes exactly where P holds
+-- a test answers yes exactly where P holds; grades has the same word, and neither crate stands on the other
 abbrev pub Says : Bool → Type 0 → Type 0
 Says b P = (T b → P) × (P → T b)

@@ -1,10 +1,11 @@
 -- What a query keeps worked out: each as a function of its table.
-use Rattle.std.specs.Prelude.{ℕ, zero, suc, ◌+◌, Bool, false, cond, ◌&&◌, ◌||◌, List, [], ◌∷◌, ◌++◌, map, take, Some, None, filter, Option, ◌==◌, slice_index, slice_index_or}
+use Rattle.std.specs.Prelude.{ℕ, zero, suc, ◌+◌, Bool, false, ◌&&◌, ◌||◌, List, map, length, take, Some, None, filter, Option, ◌==◌, slice_index_or}
 use Rattle.std.specs.List.{range_with_len}
 use Rattle.queries.specs.declared.block.Span.{Span}
 use Rattle.queries.specs.declared.term.Operands.{Operands}
 use Rattle.queries.specs.declared.term.Term.{Term}
 use Rattle.queries.specs.declared.term.Term.TheVariants.{Lowest}
+use Rattle.queries.specs.declared.workings.DealtTerm.{DealtTerm}
 use Rattle.queries.specs.Operands.{operands_of, either_is, marks}
 use Rattle.queries.specs.Table.{Table, blocks_terms, total}
 
@@ -16,29 +17,31 @@ listed f n = map f (range_with_len 0 n)
 abbrev pub span_of : Table → ℕ → Span
 span_of q b = record { first = total (take b q.blocks); end = total (take b q.blocks) + blocks_terms q b }
 
--- below, assigned has the block of each term
+-- below, terms has each term with its block
+
+abbrev pub no_term : DealtTerm
+no_term = record { term = Lowest; block = 0 }
+
+abbrev pub nth_term : List DealtTerm → ℕ → DealtTerm
+nth_term terms i = slice_index_or terms i no_term
 
 -- whether term j is of the block of term t, and reads it
-abbrev pub reads_within : List ℕ → List Term → ℕ → ℕ → Bool
-reads_within assigned terms t j = slice_index assigned j == slice_index assigned t && either_is (operands_of (slice_index_or terms j Lowest)) t
+abbrev pub reads_within : List DealtTerm → ℕ → ℕ → Bool
+reads_within terms t j = (nth_term terms j).block == (nth_term terms t).block && either_is (operands_of (nth_term terms j).term) t
 
--- of the first n terms, those that are of the block of term t and read it
-abbrev pub readers_before : List ℕ → List Term → ℕ → ℕ → List ℕ
-readers_before assigned terms n t = filter (reads_within assigned terms t) (range_with_len 0 n)
-
--- a list with one more at its end, where a test says so
-abbrev pub noted : Bool → List ℕ → ℕ → List ℕ
-noted test l j = cond test (l ++ (j ∷ [])) l
+-- the terms of the block of term t that read it
+abbrev pub readers_in : List DealtTerm → ℕ → List ℕ
+readers_in terms t = filter (reads_within terms t) (range_with_len 0 (length terms))
 
 -- whether a term reads the tag or, by its operands, a block that is reached
 abbrev pub touching : Option Operands → Bool → (ℕ → Bool) → Bool
 touching None mark reached = mark
 touching (Some o) mark reached = reached o.left || reached o.right
 
-abbrev pub touched : List ℕ → ℕ → (ℕ → Bool) → Term → Bool
-touched assigned tag reached term = touching (operands_of term) (marks term tag) (λ j. reached (slice_index assigned j))
+abbrev pub touched : List DealtTerm → ℕ → (ℕ → Bool) → Term → Bool
+touched terms tag reached term = touching (operands_of term) (marks term tag) (λ j. reached (nth_term terms j).block)
 
 -- whether a tag reaches a block by the first n terms
-abbrev pub reached_before : List ℕ → List Term → ℕ → ℕ → ℕ → Bool
-reached_before assigned terms tag zero b = false
-reached_before assigned terms tag (suc n) b = reached_before assigned terms tag n b || (slice_index assigned n == b && touched assigned tag (reached_before assigned terms tag n) (slice_index_or terms n Lowest))
+abbrev pub reached_before : List DealtTerm → ℕ → ℕ → ℕ → Bool
+reached_before terms tag zero b = false
+reached_before terms tag (suc n) b = reached_before terms tag n b || ((nth_term terms n).block == b && touched terms tag (reached_before terms tag n) (nth_term terms n).term)

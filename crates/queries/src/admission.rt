@@ -1,164 +1,126 @@
 //! Admission: whether a table keeps every rule.
-ghost use Rattle.std.specs.Prelude.{◌≡◌, ℕ, ◌-◌, ◌^◌, ◌<◌, ◌≤◌, min, List, map, length, Decides, MatchOption, MatchResult, slice_index, slice_index_or};
-ghost use Rattle.queries.specs.declared.rows.BlockRow.{BlockRow};
-ghost use Rattle.queries.specs.Admission.{RowFits, Framed, Admissible, Fits, RefusedFor};
-ghost use Rattle.queries.specs.Checks.{Assigned, standing, reading_up_to, TurnsBefore, Faulty, FirstFaulty};
-ghost use Rattle.queries.specs.Rows.{rows, no_row, block_in};
-ghost use Rattle.queries.specs.Table.{Reads, total, dealt};
+ghost use Rattle.std.specs.Prelude.{◌≡◌, ℕ, ◌-◌, ◌^◌, ◌<◌, ◌↔◌, min, length, IsTrue, MatchOption, MatchResult};
+ghost use Rattle.queries.specs.Admission.{BlockFits, Framed, Admissible, Fits, RefusedFor};
+ghost use Rattle.queries.specs.Checks.{standing, reading_up_to, TurnsBefore, Faulty, FirstFaulty};
+ghost use Rattle.queries.specs.Rows.{rows_of, told};
+ghost use Rattle.queries.specs.Table.{total, block_of};
 
+use crate::block::Block;
 use crate::refusal::QueryRefusal;
-use crate::rows::{BlockRow, TermRow};
+use crate::rows::QueryTable;
 use crate::term::Term;
 
 const MOST_TAGS: u32 = 16;
 
-pub(crate) const MOST_TERMS: usize = 64;
+const MOST_TERMS: usize = 64;
 
-/// The first block that is empty or of an unknown kind.
-fn bad_block(blocks: &[BlockRow]) -> Option<usize>
-    ensures { MatchOption result ((b : ℕ) → b < length blocks.now → RowFits (slice_index_or blocks.now b no_row)) (λ b. (b < length blocks.now) × (RowFits (slice_index_or blocks.now b no_row) → ⊥) × ((k : ℕ) → k < b → RowFits (slice_index_or blocks.now k no_row))) }
-{
-    for (i, row) in blocks.iter().enumerate() {
-        if row.terms == 0 || row.kind > 1 {
-            return Some(i);
+impl QueryTable<'_> {
+    /// The first block that is empty or of an unknown kind.
+    fn bad_block(self) -> Option<usize>
+        ensures { let r = rows_of self.entry in MatchOption result ((b : ℕ) → b < length r.blocks → BlockFits r b) (λ b. (b < length r.blocks) × (BlockFits r b → ⊥) × ((k : ℕ) → k < b → BlockFits r k)) }
+    {
+        self.blocks
+            .iter()
+            .position(|row| Block::try_from(*row).is_err())
+    }
+
+    /// How many terms the blocks have; past every number of terms where that does not fit.
+    fn term_sum(self) -> usize
+        ensures { result ≡ min (total (told (rows_of self.entry)).blocks) (2 ^ 64 - 1) }
+    {
+        self.blocks
+            .iter()
+            .fold(0usize, |sum, row| sum.saturating_add(row.terms as usize))
+    }
+
+    /// Whether a term's tag and operands are there.
+    fn stands(self, term: Term) -> bool
+        ensures { result ≡ standing self.entry.tags (length self.entry.terms.now) term }
+    {
+        let count = self.terms.len();
+        match term.operands() {
+            Some(operands) => operands.left < count && operands.right < count,
+            None => match term {
+                Term::Mark(tag) => tag < self.tags as usize,
+                _ => true,
+            },
         }
     }
-    None
-}
 
-/// How many terms the blocks have; past every number of terms where that does not fit.
-fn term_sum(blocks: &[BlockRow]) -> usize
-    ensures { result ≡ min (total (map block_in blocks.now)) (2 ^ 64 - 1) }
-{
-    let mut sum = 0usize;
-    for row in blocks {
-        sum = sum.saturating_add(row.terms as usize);
+    /// Whether a term of the block `block` reads no later one.
+    fn reads_up_to(self, term: Term, block: usize) -> bool
+        ensures { result ≡ reading_up_to (block_of (told (rows_of self.entry))) block term }
+    {
+        match term.operands() {
+            Some(operands) => {
+                self.block_of(operands.left) <= block && self.block_of(operands.right) <= block
+            }
+            None => true,
+        }
     }
-    sum
-}
 
-/// Writes the block of each term.
-fn deal(blocks: &[BlockRow], assigned: &mut [usize])
-    requires { total (map block_in blocks.now) ≤ length assigned.old }
-    ensures { (i : ℕ) → i < total (map block_in blocks.now) → slice_index assigned.new i ≡ dealt (map block_in blocks.now) i }
-{
-    let mut first = 0;
-    for (i, row) in blocks.iter().enumerate() {
-        let end = first + row.terms as usize;
-        fill(assigned, first, end, i);
-        first = end;
-    }
-}
-
-fn fill(assigned: &mut [usize], first: usize, end: usize, block: usize)
-    requires { end ≤ length assigned.old }
-    ensures inside { (k : ℕ) → first ≤ k → k < end → slice_index assigned.new k ≡ block }
-    ensures before { (k : ℕ) → k < first → slice_index assigned.new k ≡ slice_index assigned.old k }
-{
-    for k in first..end {
-        assigned[k] = block;
-    }
-}
-
-/// Whether a term's tag and operands are there.
-fn stands(term: Term, tags: usize, count: usize) -> bool
-    ensures { result ≡ standing tags count term }
-{
-    match term.operands() {
-        Some(operands) => operands.left < count && operands.right < count,
-        None => match term {
-            Term::Mark(tag) => tag < tags,
+    /// Whether a term of the block `block`, if a turn, reads an earlier one.
+    fn turns_before(self, term: Term, block: usize) -> bool
+        ensures { IsTrue result ↔ TurnsBefore (block_of (told (rows_of self.entry))) block term }
+    {
+        match term {
+            Term::Turn(a) => self.block_of(a) < block,
             _ => true,
-        },
+        }
     }
-}
 
-/// Whether a term of the block `block` reads no later one.
-fn reads_up_to(term: Term, assigned: &[usize], block: usize) -> bool
-    requires { (j : ℕ) → Reads term j → j < length assigned.now }
-    ensures { result ≡ reading_up_to assigned.now block term }
-{
-    match term.operands() {
-        Some(operands) => assigned[operands.left] <= block && assigned[operands.right] <= block,
-        None => true,
+    /// Whether term `i` keeps every rule, and the first that it breaks.
+    fn check_term(self, i: usize) -> Result<(), QueryRefusal>
+        requires { i < length self.terms.now }
+        ensures { MatchResult result (λ _. Fits (rows_of self.entry) i) (λ e. Faulty (rows_of self.entry) i e) }
+    {
+        let Ok(term) = Term::try_from(self.terms[i]) else {
+            return Err(QueryRefusal::BadTerm { term: i });
+        };
+        if !self.stands(term) {
+            return Err(QueryRefusal::BadTerm { term: i });
+        }
+        let block = self.block_of(i);
+        if !self.reads_up_to(term, block) {
+            return Err(QueryRefusal::LaterBlock { term: i });
+        }
+        if !self.turns_before(term, block) {
+            return Err(QueryRefusal::OwnTurn { term: i });
+        }
+        Ok(())
     }
-}
 
-/// Whether a term of the block `block`, if a turn, reads an earlier one.
-fn turns_before(term: Term, assigned: &[usize], block: usize) -> bool
-    requires { (j : ℕ) → Reads term j → j < length assigned.now }
-    ensures { Decides result (TurnsBefore assigned.now block term) }
-{
-    match term {
-        Term::Turn(a) => assigned[a] < block,
-        _ => true,
+    /// Whether every term keeps every rule, and the first that the first faulty one breaks.
+    fn check_terms(self) -> Result<(), QueryRefusal>
+        ensures { let r = rows_of self.entry in MatchResult result (λ _. (i : ℕ) → i < length r.terms → Fits r i) (λ e. FirstFaulty r e) }
+    {
+        for i in 0..self.terms.len() {
+            self.check_term(i)?;
+        }
+        Ok(())
     }
-}
 
-/// Whether term `i` keeps every rule, and the first that it breaks.
-fn check_term(
-    tags: u32,
-    terms: &[TermRow],
-    assigned: &[usize],
-    i: usize,
-) -> Result<(), QueryRefusal>
-    requires term { i < length terms.now }
-    requires dealt { length terms.now ≤ length assigned.now }
-    ensures { (bs : List BlockRow) → Assigned (rows tags bs terms.now) assigned.now → MatchResult result (λ _. Fits (rows tags bs terms.now) i) (λ e. Faulty (rows tags bs terms.now) i e) }
-{
-    let Some(term) = terms[i].term() else {
-        return Err(QueryRefusal::BadTerm { term: i });
-    };
-    if !stands(term, tags as usize, terms.len()) {
-        return Err(QueryRefusal::BadTerm { term: i });
+    /// Whether the sizes and the blocks are as they should be, and the first cause where not.
+    fn check_frame(self) -> Result<(), QueryRefusal>
+        ensures { MatchResult result (λ _. Framed (rows_of self.entry)) (λ e. RefusedFor (rows_of self.entry) e) }
+    {
+        if self.tags > MOST_TAGS || self.terms.is_empty() || self.terms.len() > MOST_TERMS {
+            return Err(QueryRefusal::Sizes);
+        }
+        if let Some(block) = self.bad_block() {
+            return Err(QueryRefusal::BadBlock { block });
+        }
+        if self.term_sum() != self.terms.len() {
+            return Err(QueryRefusal::BlockSum);
+        }
+        Ok(())
     }
-    if !reads_up_to(term, assigned, assigned[i]) {
-        return Err(QueryRefusal::LaterBlock { term: i });
-    }
-    if !turns_before(term, assigned, assigned[i]) {
-        return Err(QueryRefusal::OwnTurn { term: i });
-    }
-    Ok(())
-}
 
-/// Whether every term keeps every rule, and the first that the first faulty one breaks.
-fn check_terms(tags: u32, terms: &[TermRow], assigned: &[usize]) -> Result<(), QueryRefusal>
-    requires { length terms.now ≤ length assigned.now }
-    ensures { (bs : List BlockRow) → Assigned (rows tags bs terms.now) assigned.now → MatchResult result (λ _. (i : ℕ) → i < length terms.now → Fits (rows tags bs terms.now) i) (λ e. FirstFaulty (rows tags bs terms.now) e) }
-{
-    for i in 0..terms.len() {
-        check_term(tags, terms, assigned, i)?;
+    /// Whether the table keeps every rule, and the first cause to refuse it where not.
+    pub(crate) fn check(self) -> Result<(), QueryRefusal>
+        ensures { MatchResult result (λ _. Admissible (rows_of self.entry)) (λ e. RefusedFor (rows_of self.entry) e) }
+    {
+        self.check_frame()?;
+        self.check_terms()
     }
-    Ok(())
-}
-
-/// Whether the sizes and the blocks are as they should be, and the first cause where not.
-fn check_frame(tags: u32, blocks: &[BlockRow], terms: &[TermRow]) -> Result<(), QueryRefusal>
-    ensures { MatchResult result (λ _. Framed (rows tags blocks.now terms.now)) (λ e. RefusedFor (rows tags blocks.now terms.now) e) }
-{
-    if tags > MOST_TAGS || terms.is_empty() || terms.len() > MOST_TERMS {
-        return Err(QueryRefusal::Sizes);
-    }
-    if let Some(block) = bad_block(blocks) {
-        return Err(QueryRefusal::BadBlock { block });
-    }
-    if term_sum(blocks) != terms.len() {
-        return Err(QueryRefusal::BlockSum);
-    }
-    Ok(())
-}
-
-/// The block of each term of a table that keeps every rule, or the first cause to refuse it.
-pub(crate) fn check(
-    tags: u32,
-    blocks: &[BlockRow],
-    terms: &[TermRow],
-) -> Result<[usize; MOST_TERMS], QueryRefusal>
-    ensures { MatchResult result (λ assigned. Admissible (rows tags blocks.now terms.now) × Assigned (rows tags blocks.now terms.now) assigned) (λ e. RefusedFor (rows tags blocks.now terms.now) e) }
-{
-    check_frame(tags, blocks, terms)?;
-    let mut assigned = [0; MOST_TERMS];
-    deal(blocks, &mut assigned);
-    check_terms(tags, terms, &assigned)?;
-    Ok(assigned)
 }

@@ -3,6 +3,7 @@
 
 mod admission;
 pub mod block;
+mod dealing;
 pub mod laws;
 pub mod query;
 pub mod refusal;

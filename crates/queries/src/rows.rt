@@ -1,17 +1,20 @@
 //! The rows of a query table, as they come: any numbers.
-ghost use Rattle.std.specs.Prelude.{◌≡◌, if◌then◌else◌, Some, None, nat_eq};
-ghost use Rattle.queries.specs.Rows.{block_in, term_in};
+ghost use Rattle.std.specs.Prelude.{◌≡◌};
+ghost use Rattle.queries.specs.Rows.{TellsBlock, TellsTerm, block_in};
 
 use crate::block::{Block, Solution};
 use crate::term::Term;
 use shapes::axis::Axis;
+use thiserror::Error;
 
+/// A block of a table. The kind is a number, since a raw table may hold any.
 #[derive(Clone, Copy, PartialEq, Eq, Debug)]
 pub struct BlockRow {
     pub kind: u32,
     pub terms: u32,
 }
 
+/// A term of a table. The kind is a number, since a raw table may hold any.
 #[derive(Clone, Copy, PartialEq, Eq, Debug)]
 pub struct TermRow {
     pub kind: u32,
@@ -19,8 +22,16 @@ pub struct TermRow {
     pub b: u32,
 }
 
+/// A table: how many tags it has, its blocks in order, and its terms in the order of the blocks.
+#[derive(Clone, Copy, PartialEq, Eq, Debug)]
+pub struct QueryTable<'a> {
+    pub tags: u32,
+    pub blocks: &'a [BlockRow],
+    pub terms: &'a [TermRow],
+}
+
 impl BlockRow {
-    /// The block that the row stands for, a least one where the kind is unknown.
+    /// The block that the row stands for, a least one where the kind is unknown. Unlike `try_from` it answers for every row.
     pub fn block(self) -> Block
         ensures { result ≡ block_in self }
     {
@@ -35,43 +46,51 @@ impl BlockRow {
     }
 }
 
-impl TermRow {
-    /// The term that the row stands for; none where the kind is unknown or an unused operand is not 0.
-    pub fn term(self) -> Option<Term>
-        ensures { result ≡ term_in self }
-    {
-        let a = self.a as usize;
-        let b = self.b as usize;
-        match self.kind {
-            0 => using_a(Term::Mark(a), b),
-            1 => using_a(Term::Turn(a), b),
-            2 => Some(Term::Meet(a, b)),
-            3 => Some(Term::Join(a, b)),
-            4 => using_a(Term::SomeNeighbour(Axis::First, a), b),
-            5 => using_a(Term::SomeNeighbour(Axis::Next, a), b),
-            6 => using_a(Term::SomeNeighbour(Axis::Owner, a), b),
-            7 => using_a(Term::SomeNeighbour(Axis::Previous, a), b),
-            8 => using_a(Term::EveryNeighbour(Axis::First, a), b),
-            9 => using_a(Term::EveryNeighbour(Axis::Next, a), b),
-            10 => using_a(Term::EveryNeighbour(Axis::Owner, a), b),
-            11 => using_a(Term::EveryNeighbour(Axis::Previous, a), b),
-            12 => using_none(Term::Lowest, a, b),
-            13 => using_none(Term::Highest, a, b),
-            _ => None,
+/// A row that stands for no block.
+#[derive(Clone, Copy, PartialEq, Eq, Debug, Error)]
+#[error("the block is empty, or of an unknown kind")]
+pub struct BadBlockRow;
+
+/// A row that stands for no term.
+#[derive(Clone, Copy, PartialEq, Eq, Debug, Error)]
+#[error("the kind of the term is unknown, or an unused operand is not 0")]
+pub struct BadTermRow;
+
+impl TryFrom<BlockRow> for Block {
+    type Error = BadBlockRow;
+
+    ghost try_from_gives = { TellsBlock };
+
+    fn try_from(row: BlockRow) -> Result<Self, BadBlockRow> {
+        if row.terms == 0 || row.kind > 1 {
+            return Err(BadBlockRow);
         }
+        Ok(row.block())
     }
 }
 
-/// A term that has no use for the second operand.
-fn using_a(term: Term, b: usize) -> Option<Term>
-    ensures { result ≡ (if nat_eq b 0 then Some term else None) }
-{
-    if b == 0 { Some(term) } else { None }
-}
+impl TryFrom<TermRow> for Term {
+    type Error = BadTermRow;
 
-/// A term that has no use for either operand.
-fn using_none(term: Term, a: usize, b: usize) -> Option<Term>
-    ensures { result ≡ (if nat_eq a 0 then (if nat_eq b 0 then Some term else None) else None) }
-{
-    if a == 0 { using_a(term, b) } else { None }
+    ghost try_from_gives = { TellsTerm };
+
+    fn try_from(row: TermRow) -> Result<Self, BadTermRow> {
+        match (row.kind, row.a as usize, row.b as usize) {
+            (0, tag, 0) => Ok(Term::Mark(tag)),
+            (1, a, 0) => Ok(Term::Turn(a)),
+            (2, a, b) => Ok(Term::Meet(a, b)),
+            (3, a, b) => Ok(Term::Join(a, b)),
+            (4, a, 0) => Ok(Term::SomeNeighbour(Axis::First, a)),
+            (5, a, 0) => Ok(Term::SomeNeighbour(Axis::Next, a)),
+            (6, a, 0) => Ok(Term::SomeNeighbour(Axis::Owner, a)),
+            (7, a, 0) => Ok(Term::SomeNeighbour(Axis::Previous, a)),
+            (8, a, 0) => Ok(Term::EveryNeighbour(Axis::First, a)),
+            (9, a, 0) => Ok(Term::EveryNeighbour(Axis::Next, a)),
+            (10, a, 0) => Ok(Term::EveryNeighbour(Axis::Owner, a)),
+            (11, a, 0) => Ok(Term::EveryNeighbour(Axis::Previous, a)),
+            (12, 0, 0) => Ok(Term::Lowest),
+            (13, 0, 0) => Ok(Term::Highest),
+            _ => Err(BadTermRow),
+        }
+    }
 }

@@ -1,8 +1,9 @@
 //! Terms: how a definition's grade at a node comes about.
 ghost use Rattle.std.specs.Prelude.{◌≡◌};
-ghost use Rattle.queries.specs.Operands.{operands_of};
+ghost use Rattle.queries.specs.Operands.{operands_of, either_is};
 
 use shapes::axis::Axis;
+use std::fmt;
 
 /// A definition; operands are terms by their number.
 #[derive(Clone, Copy, PartialEq, Eq, Debug)]
@@ -22,7 +23,7 @@ pub enum Term {
 }
 
 /// The terms that a term reads; a single one stands on both sides.
-#[derive(Clone, Copy)]
+#[derive(Clone, Copy, PartialEq, Eq, Debug)]
 pub struct Operands {
     pub left: usize,
     pub right: usize,
@@ -39,6 +40,41 @@ impl Term {
             Term::Turn(a) | Term::SomeNeighbour(_, a) | Term::EveryNeighbour(_, a) => Some(
                 Operands { left: a, right: a },
             ),
+        }
+    }
+
+    /// Whether this term reads another.
+    pub(crate) fn reads(self, other: usize) -> bool
+        ensures { result ≡ either_is (operands_of self) other }
+    {
+        match self.operands() {
+            Some(operands) => operands.left == other || operands.right == other,
+            None => false,
+        }
+    }
+}
+
+impl fmt::Display for Term {
+    fn fmt<W: fmt::Write>(&self, f: &mut fmt::Formatter<W>) -> fmt::Result {
+        match *self {
+            Term::Mark(tag) => write!(f, "the mark of tag {tag}"),
+            Term::Turn(a) => write!(f, "the turn of term {a}"),
+            Term::Meet(a, b) => write!(f, "the meet of terms {a} and {b}"),
+            Term::Join(a, b) => write!(f, "the join of terms {a} and {b}"),
+            Term::SomeNeighbour(axis, a) => {
+                write!(
+                    f,
+                    "term {a} at the {axis} neighbour, lowest where there is none"
+                )
+            }
+            Term::EveryNeighbour(axis, a) => {
+                write!(
+                    f,
+                    "term {a} at the {axis} neighbour, highest where there is none"
+                )
+            }
+            Term::Lowest => f.write_str("lowest"),
+            Term::Highest => f.write_str("highest"),
         }
     }
 }

@@ -2,7 +2,9 @@
 use queries::block::{Solution, Span};
 use queries::query::Query;
 use queries::refusal::QueryRefusal;
-use queries::rows::{BlockRow, TermRow};
+use queries::rows::{BlockRow, QueryTable, TermRow};
+use queries::term::Term;
+use shapes::axis::Axis;
 use std::alloc::{AllocError, Global};
 use std::test::Fail;
 
@@ -11,10 +13,8 @@ struct Case {
     tags: u32,
     blocks: &'static [(u32, u32)],
     terms: &'static [(u32, u32, u32)],
-    /// The number of the refusal, 0 for none.
-    number: u8,
-    /// The block or the term that the refusal names, 0 where it names none.
-    place: usize,
+    /// The number of the refusal, and the block or the term that it names; none where the table is admitted.
+    refused: Option<(u8, Option<usize>)>,
 }
 
 const CASES: [Case; 31] = [
@@ -23,262 +23,222 @@ const CASES: [Case; 31] = [
         tags: 1,
         blocks: &[(0, 1), (1, 2)],
         terms: &[(0, 0, 0), (1, 0, 0), (13, 0, 0)],
-        number: 0,
-        place: 0,
+        refused: None,
     },
     Case {
         tags: 0,
         blocks: &[(1, 2)],
         terms: &[(2, 1, 1), (3, 0, 1)],
-        number: 0,
-        place: 0,
+        refused: None,
     },
     Case {
         tags: 0,
         blocks: &[(0, 3)],
         terms: &[(4, 2, 0), (11, 0, 0), (12, 0, 0)],
-        number: 0,
-        place: 0,
+        refused: None,
     },
     Case {
         tags: 0,
         blocks: &[(0, 1)],
         terms: &[(14, 0, 0)],
-        number: 4,
-        place: 0,
+        refused: Some((4, Some(0))),
     },
     // no term at all
     Case {
         tags: 0,
         blocks: &[],
         terms: &[],
-        number: 3,
-        place: 0,
+        refused: Some((3, None)),
     },
     // an empty block: first, in the middle, last
     Case {
         tags: 0,
         blocks: &[(0, 0), (0, 2)],
         terms: &[(12, 0, 0), (12, 0, 0)],
-        number: 3,
-        place: 0,
+        refused: Some((3, Some(0))),
     },
     Case {
         tags: 0,
         blocks: &[(0, 1), (0, 0), (0, 1)],
         terms: &[(12, 0, 0), (12, 0, 0)],
-        number: 3,
-        place: 1,
+        refused: Some((3, Some(1))),
     },
     Case {
         tags: 0,
         blocks: &[(0, 1), (0, 1), (0, 0)],
         terms: &[(12, 0, 0), (12, 0, 0)],
-        number: 3,
-        place: 2,
+        refused: Some((3, Some(2))),
     },
     // an unknown kind of block, behind one that is known
     Case {
         tags: 0,
         blocks: &[(1, 1), (2, 1)],
         terms: &[(12, 0, 0), (12, 0, 0)],
-        number: 3,
-        place: 1,
+        refused: Some((3, Some(1))),
     },
     // one term too few, one too many, and sums past what a number holds
     Case {
         tags: 0,
         blocks: &[(0, 1)],
         terms: &[(12, 0, 0), (12, 0, 0)],
-        number: 3,
-        place: 0,
+        refused: Some((3, None)),
     },
     Case {
         tags: 0,
         blocks: &[(0, 3)],
         terms: &[(12, 0, 0), (12, 0, 0)],
-        number: 3,
-        place: 0,
+        refused: Some((3, None)),
     },
     Case {
         tags: 0,
         blocks: &[(0, 4_294_967_295), (0, 4_294_967_295)],
         terms: &[(12, 0, 0)],
-        number: 3,
-        place: 0,
+        refused: Some((3, None)),
     },
     // an operand or a tag just within, and one past
     Case {
         tags: 2,
         blocks: &[(0, 1)],
         terms: &[(0, 1, 0)],
-        number: 0,
-        place: 0,
+        refused: None,
     },
     Case {
         tags: 2,
         blocks: &[(0, 1)],
         terms: &[(0, 2, 0)],
-        number: 4,
-        place: 0,
+        refused: Some((4, Some(0))),
     },
     Case {
         tags: 0,
         blocks: &[(0, 1)],
         terms: &[(1, 1, 0)],
-        number: 4,
-        place: 0,
+        refused: Some((4, Some(0))),
     },
     Case {
         tags: 0,
         blocks: &[(0, 2)],
         terms: &[(12, 0, 0), (2, 2, 0)],
-        number: 4,
-        place: 1,
+        refused: Some((4, Some(1))),
     },
     Case {
         tags: 0,
         blocks: &[(0, 2)],
         terms: &[(12, 0, 0), (3, 0, 2)],
-        number: 4,
-        place: 1,
+        refused: Some((4, Some(1))),
     },
     Case {
         tags: 0,
         blocks: &[(0, 1)],
         terms: &[(7, 1, 0)],
-        number: 4,
-        place: 0,
+        refused: Some((4, Some(0))),
     },
     Case {
         tags: 0,
         blocks: &[(0, 1)],
         terms: &[(8, 1, 0)],
-        number: 4,
-        place: 0,
+        refused: Some((4, Some(0))),
     },
     // an unused operand that is not 0
     Case {
         tags: 1,
         blocks: &[(0, 1)],
         terms: &[(0, 0, 1)],
-        number: 4,
-        place: 0,
+        refused: Some((4, Some(0))),
     },
     Case {
         tags: 0,
         blocks: &[(0, 1)],
         terms: &[(12, 1, 0)],
-        number: 4,
-        place: 0,
+        refused: Some((4, Some(0))),
     },
     Case {
         tags: 0,
         blocks: &[(0, 1)],
         terms: &[(13, 0, 1)],
-        number: 4,
-        place: 0,
+        refused: Some((4, Some(0))),
     },
     // a later block read: at either place, and by a turn
     Case {
         tags: 0,
         blocks: &[(0, 1), (0, 1)],
         terms: &[(4, 1, 0), (12, 0, 0)],
-        number: 5,
-        place: 0,
+        refused: Some((5, Some(0))),
     },
     Case {
         tags: 0,
         blocks: &[(0, 1), (0, 1)],
         terms: &[(2, 0, 1), (12, 0, 0)],
-        number: 5,
-        place: 0,
+        refused: Some((5, Some(0))),
     },
     Case {
         tags: 0,
         blocks: &[(0, 1), (0, 1)],
         terms: &[(1, 1, 0), (12, 0, 0)],
-        number: 5,
-        place: 0,
+        refused: Some((5, Some(0))),
     },
     // the turn of itself, and of another term of its block
     Case {
         tags: 0,
         blocks: &[(0, 1)],
         terms: &[(1, 0, 0)],
-        number: 6,
-        place: 0,
+        refused: Some((6, Some(0))),
     },
     Case {
         tags: 0,
         blocks: &[(0, 1), (0, 2)],
         terms: &[(12, 0, 0), (1, 2, 0), (12, 0, 0)],
-        number: 6,
-        place: 1,
+        refused: Some((6, Some(1))),
     },
     // of two faults in one term the smaller number
     Case {
         tags: 0,
         blocks: &[(0, 1), (0, 1)],
         terms: &[(2, 1, 2), (12, 0, 0)],
-        number: 4,
-        place: 0,
+        refused: Some((4, Some(0))),
     },
     Case {
         tags: 0,
         blocks: &[(0, 1), (0, 1)],
         terms: &[(12, 0, 0), (1, 2, 0)],
-        number: 4,
-        place: 1,
+        refused: Some((4, Some(1))),
     },
     // of two faulty terms the first
     Case {
         tags: 0,
         blocks: &[(0, 1), (0, 1)],
         terms: &[(1, 0, 0), (14, 0, 0)],
-        number: 6,
-        place: 0,
+        refused: Some((6, Some(0))),
     },
     Case {
         tags: 0,
         blocks: &[(0, 1), (0, 1)],
         terms: &[(12, 0, 0), (14, 0, 0)],
-        number: 4,
-        place: 1,
+        refused: Some((4, Some(1))),
     },
 ];
 
 fn block_rows(heap: Global, blocks: &[(u32, u32)]) -> Result<Vec<BlockRow>, AllocError> {
-    let mut rows = Vec::new(heap);
-    for (kind, terms) in blocks {
-        rows.push(BlockRow {
-            kind: *kind,
-            terms: *terms,
-        })?;
-    }
-    Ok(rows)
+    blocks
+        .iter()
+        .map(|&(kind, terms)| BlockRow { kind, terms })
+        .collect(heap)
 }
 
 fn term_rows(heap: Global, terms: &[(u32, u32, u32)]) -> Result<Vec<TermRow>, AllocError> {
-    let mut rows = Vec::new(heap);
-    for (kind, a, b) in terms {
-        rows.push(TermRow {
-            kind: *kind,
-            a: *a,
-            b: *b,
-        })?;
-    }
-    Ok(rows)
+    terms
+        .iter()
+        .map(|&(kind, a, b)| TermRow { kind, a, b })
+        .collect(heap)
 }
 
 /// The block or the term that a refusal names.
-fn place_of(refusal: QueryRefusal) -> usize {
+fn place_of(refusal: QueryRefusal) -> Option<usize> {
     match refusal {
-        QueryRefusal::BadBlock { block } => block,
+        QueryRefusal::BadBlock { block } => Some(block),
         QueryRefusal::BadTerm { term }
         | QueryRefusal::LaterBlock { term }
-        | QueryRefusal::OwnTurn { term } => term,
-        _ => 0,
+        | QueryRefusal::OwnTurn { term } => Some(term),
+        QueryRefusal::Sizes | QueryRefusal::BlockSum | QueryRefusal::NoMemory => None,
     }
 }
 
@@ -287,14 +247,20 @@ fn answers(heap: Global, case: &Case) -> Result<bool, Fail> {
     let mut query = Query::new(heap)?;
     let blocks = block_rows(heap, case.blocks)?;
     let terms = term_rows(heap, case.terms)?;
-    let answer = query.admit(heap, case.tags, &blocks, &terms);
-    let count = query.term_count();
-    match answer {
-        Ok(_) => Ok(case.number == 0 && count == case.terms.len()),
-        Err(refusal) => Ok(
-            case.number == refusal.number() && case.place == place_of(refusal) && count == 1,
-        ),
-    }
+    let table = QueryTable {
+        tags: case.tags,
+        blocks: &blocks,
+        terms: &terms,
+    };
+    let refused = query
+        .admit(heap, table)
+        .err()
+        .map(|refusal| (refusal.number(), place_of(refusal)));
+    let count = match case.refused {
+        Some(_) => 1,
+        None => case.terms.len(),
+    };
+    Ok(refused == case.refused && query.term_count() == count)
 }
 
 #[test]
@@ -305,8 +271,8 @@ fn every_cause(rt: HostRuntime) -> Result<(), Fail> {
     Ok(())
 }
 
-/// The number that admission answers for so many tags and so many lowest terms in one block.
-fn sizes(heap: Global, tags: u32, count: u32) -> Result<u8, Fail> {
+/// The number of the refusal of so many tags and so many lowest terms in one block.
+fn refusal_of_sizes(heap: Global, tags: u32, count: u32) -> Result<Option<u8>, Fail> {
     let mut query = Query::new(heap)?;
     let block = BlockRow {
         kind: 0,
@@ -318,17 +284,19 @@ fn sizes(heap: Global, tags: u32, count: u32) -> Result<u8, Fail> {
         b: 0,
     };
     let terms = vec![in heap; term; count as usize]?;
-    match query.admit(heap, tags, &[block], &terms) {
-        Ok(_) => Ok(0),
-        Err(refusal) => Ok(refusal.number()),
-    }
+    let table = QueryTable {
+        tags,
+        blocks: &[block],
+        terms: &terms,
+    };
+    Ok(query.admit(heap, table).err().map(QueryRefusal::number))
 }
 
 #[test]
 fn limits(rt: HostRuntime) -> Result<(), Fail> {
-    assert_eq!(rt; sizes(rt.alloc(), 16, 64)?, 0);
-    assert_eq!(rt; sizes(rt.alloc(), 17, 64)?, 3);
-    assert_eq!(rt; sizes(rt.alloc(), 16, 65)?, 3);
+    assert_eq!(rt; refusal_of_sizes(rt.alloc(), 16, 64)?, None);
+    assert_eq!(rt; refusal_of_sizes(rt.alloc(), 17, 64)?, Some(3));
+    assert_eq!(rt; refusal_of_sizes(rt.alloc(), 16, 65)?, Some(3));
     Ok(())
 }
 
@@ -371,42 +339,24 @@ const REACHED: [[bool; 4]; 3] = [
 ];
 
 fn readers_answer(query: &Query) -> bool {
-    for (i, (block, readers)) in READERS.iter().enumerate() {
-        if query.block_of(i) != *block
-            || query.readers_of(i) != *readers
-            || query.term(i).is_some() != block.is_some()
-        {
-            return false;
-        }
-    }
-    true
+    READERS.iter().enumerate().all(|(i, (block, readers))| {
+        query.block_of(i) == *block
+            && query.readers_of(i) == *readers
+            && query.term(i).is_some() == block.is_some()
+    })
 }
 
 fn spans_answer(query: &Query) -> bool {
-    for (i, expected) in SPANS.iter().enumerate() {
-        let told = match expected {
-            Some((solution, first, end)) => query.solution(i) == Some(*solution)
-                && query.span(i)
-                    == Some(Span {
-                        first: *first,
-                        end: *end,
-                    }),
-            None => query.solution(i).is_none() && query.span(i).is_none(),
-        };
-        if !told {
-            return false;
-        }
-    }
-    true
+    SPANS.iter().enumerate().all(|(i, expected)| {
+        query.solution(i) == expected.map(|(solution, _, _)| solution)
+            && query.span(i) == expected.map(|(_, first, end)| Span { first, end })
+    })
 }
 
 fn row_answers(query: &Query, tag: usize, row: &[bool]) -> bool {
-    for (block, expected) in row.iter().enumerate() {
-        if query.reaches(tag, block) != *expected {
-            return false;
-        }
-    }
-    true
+    row.iter()
+        .enumerate()
+        .all(|(block, expected)| query.reaches(tag, block) == *expected)
 }
 
 #[test]
@@ -414,11 +364,34 @@ fn questions(rt: HostRuntime) -> Result<(), Fail> {
     let mut query = Query::new(rt.alloc())?;
     let blocks = block_rows(rt.alloc(), &BLOCKS)?;
     let terms = term_rows(rt.alloc(), &TERMS)?;
-    query.admit(rt.alloc(), 2, &blocks, &terms)?;
+    let table = QueryTable {
+        tags: 2,
+        blocks: &blocks,
+        terms: &terms,
+    };
+    query.admit(rt.alloc(), table)?;
     assert!(rt; query.tag_count() == 2 && query.block_count() == 3 && query.term_count() == 6);
     assert!(rt; readers_answer(&query) && spans_answer(&query));
     for (tag, row) in REACHED.iter().enumerate() {
         assert!(rt; row_answers(&query, tag, row));
     }
+    Ok(())
+}
+
+#[test]
+fn texts(rt: HostRuntime) -> Result<(), Fail> {
+    let heap = rt.alloc();
+    let refusal = QueryRefusal::BadBlock { block: 2 };
+    let text = format!(in heap; "{refusal}")?;
+    assert_eq!(rt; text.as_str(), "block 2 is empty, or of an unknown kind");
+    let term = Term::SomeNeighbour(Axis::Next, 1);
+    let text = format!(in heap; "{term}")?;
+    assert_eq!(rt;
+        text.as_str(),
+        "term 1 at the next neighbour, lowest where there is none"
+    );
+    let solution = Solution::Greatest;
+    let text = format!(in heap; "{solution}")?;
+    assert_eq!(rt; text.as_str(), "greatest");
     Ok(())
 }

@@ -30,31 +30,28 @@ impl Query {
     pub fn term(&self, i: usize) -> Option<Term>
         ensures { result ≡ slice_get (table_of self.now).terms i }
     {
-        self.terms.get(i).copied()
+        self.terms.get(i).map(|entry| entry.term)
     }
 
     /// The block of a term; none past the terms.
     pub fn block_of(&self, term: usize) -> Option<usize>
         ensures { result ≡ (if nat_lt term (length (table_of self.now).terms) then Some (block_of (table_of self.now) term) else None) }
     {
-        self.assigned.get(term).copied()
+        self.terms.get(term).map(|entry| entry.block)
     }
 
     /// Which solution a block is read as; none past the blocks.
     pub fn solution(&self, block: usize) -> Option<Solution>
         ensures { result ≡ (if nat_lt block (length (table_of self.now).blocks) then Some (solution_at (table_of self.now) block) else None) }
     {
-        match self.blocks.get(block) {
-            Some(block) => Some(block.solution),
-            None => None,
-        }
+        self.blocks.get(block).map(|entry| entry.block.solution)
     }
 
     /// The terms of a block; none past the blocks.
     pub fn span(&self, block: usize) -> Option<Span>
         ensures { MatchOption result (length (table_of self.now).blocks ≤ block) (λ s. Spans (table_of self.now) block s) }
     {
-        self.spans.get(block).copied()
+        self.blocks.get(block).map(|entry| entry.span)
     }
 
     /// The terms of a term's own block that read it, in rising order.
@@ -62,8 +59,8 @@ impl Query {
         ensures lists { ListsReaders (table_of self.now) term result.now }
         ensures past { length (table_of self.now).terms ≤ term → result.now ≡ [] }
     {
-        match self.readers.get(term) {
-            Some(readers) => readers.as_slice(),
+        match self.terms.get(term) {
+            Some(entry) => entry.readers.as_slice(),
             None => &[],
         }
     }

@@ -1,10 +1,10 @@
-use Rattle.std.proofs.Common.{◌≡◌, ℕ, ◌≤◌, cond, ltb, length, Some, None, Option, sym, ap, ◌∙◌, subst, MatchOption}
-use Rattle.std.specs.List.{slice_get}
+use Rattle.std.proofs.Common.{◌≡◌, ℕ, ◌≤◌, cond, ltb, length, Some, None, Option, sym, ◌∙◌, subst, MatchOption, rules}
+use Rattle.std.specs.Option.{option_map}
 use Rattle.queries.specs.declared.block.Span.{Span}
 use Rattle.queries.specs.Queries.{table_of, Spans}
 use Rattle.queries.specs.Table.{Table, total}
 use Rattle.queries.specs.Workings.{span_of}
-use Rattle.queries.proofs.Listed.{picked, nth_listed, some_listed, none_listed}
+use Rattle.queries.proofs.Listed.{picked_by, nth_listed, some_listed, none_listed}
 use Rattle.queries.proofs.Questions.{spans_right}
 use Rattle.queries.proofs.query.Query.span.Goals as goal
 
@@ -15,6 +15,7 @@ answered q all b (Some s) e = let h = some_listed (length q.blocks) b (span_of q
 
 pub returns : goal.returns
 returns c =
-    let q = table_of c.args.self.now in
-    answered q c.args.self.now.all_dealt c.args.block c.copied.result
-    (c.copied.ensures ∙ picked c.deref.result.now c.args.block c.get.result c.get.ensures.lookup ∙ ap (λ l. slice_get l c.args.block) (c.deref.ensures.value ∙ c.args.self.now.spans_stand) ∙ nth_listed (span_of q) (length q.blocks) c.args.block)
+    let query = c.args.self.now in
+    let q = table_of query in
+    let found : c.map.result ≡ option_map (λ e. e.now.span) c.get.result = search rules in
+    answered q query.rules.sized.all_dealt c.args.block c.map.result (found ∙ picked_by (λ e. e.span) _ _ c.args.block c.get.result c.get.ensures.lookup c.deref.ensures.value query.spans_stand ∙ nth_listed (span_of q) (length q.blocks) c.args.block)
