@@ -7,11 +7,11 @@ use Rattle.queries.specs.declared.block.Solution.{Solution}
 use Rattle.queries.specs.declared.term.Term.{Term}
 use Rattle.queries.specs.declared.term.Term.TheVariants.{Mark, Turn, Meet, Join, SomeNeighbour, EveryNeighbour, Lowest, Highest}
 use Rattle.queries.specs.Table.{Table, Admitted, Directed, Reads, by_meet_left, by_meet_right, by_join_left, by_join_right, by_some, by_every, term_at, block_of, direction, opposite}
+use Rattle.queries.proofs.Directions.{directed}
 use Rattle.meaning.specs.Solutions.{Grades, Entry, Better, AgreeBefore, grade_of_lem, at_or}
 use Rattle.meaning.specs.Readings.{Reading}
 use Rattle.meaning.specs.Readings.Reading.{turned, met_left, met_right, joined_left, joined_right, some_there, every_there}
 use Rattle.meaning.proofs.Better.{better_refl, better_equal, better_met, better_joined, better_turned}
-use Rattle.meaning.proofs.Admitted.{directed}
 use Rattle.meaning.proofs.Readings.{reading_reads, read_stands}
 
 -- all that the theory asks of a kind, a tree and a query

@@ -1,5 +1,6 @@
 -- The trees of the examples keep the laws.
 use Rattle.std.proofs.Common.{◌≡◌, ℕ, ◌<◌, ◌≤◌, eqb, Some, None, Option, sym, refl, ap, ◌∙◌, inl, inr, arith, lit≤}
+use Rattle.std.proofs.lemmas.Option.{none-some}
 use Rattle.std.proofs.lemmas.Bool.{cond-true, cond-false, eq-eqb, ne_eqb, cases_eq}
 use Rattle.shapes.specs.declared.axis.Axis.{Axis}
 use Rattle.shapes.specs.declared.axis.Axis.TheVariants.{First, Next, Owner, Previous}
@@ -7,7 +8,7 @@ use Rattle.shapes.specs.Tree.{Laws, EitherOne, Present, along, back}
 use Rattle.meaning.specs.Examples.{only, one_node, two_nodes, three_nodes}
 
 never : {A : Type 0} (y : ℕ) → ◌≡◌ {A = Option ℕ} None (Some y) → A
-never y e = let z : ◌≡◌ {A = ℕ} 0 1 = cc in absurd (omega arith)
+never y e = absurd (none-some y e)
 
 module _ (a b x : ℕ) where
   only_there : x ≡ a → only a b x ≡ Some b

@@ -1,53 +1,13 @@
 //! The grade that a term gives at a node, from tables of marks and values.
-ghost use Rattle.std.specs.Prelude.{◌≡◌, ℕ, ◌<◌, length, Some};
 ghost use Rattle.std.specs.Option.{SomeIff};
 ghost use Rattle.shapes.specs.Shapes.{tree_of};
-ghost use Rattle.meaning.specs.Solutions.{at_or, grade_of_lem};
-ghost use Rattle.meaning.specs.Tables.{place, grades_in, Readable};
+ghost use Rattle.meaning.specs.Solutions.{grade_of_lem};
+ghost use Rattle.meaning.specs.Tables.{grades_in, Readable};
 
+use crate::table::GradeTable;
 use grades::grade::Grade;
 use queries::term::Term;
 use shapes::shape::Shape;
-
-/// The grade of a row at a node in a table over `count` nodes; none outside the table.
-pub fn entry_of<G: Grade>(table: &[G], count: usize, row: usize, node: usize) -> Option<G>
-    ensures { SomeIff result (place count row node < length table.now) (grades_in G.kind count table.now row node) }
-{
-    let at = row.checked_mul(count)?.checked_add(node)?;
-    table.get(at).copied()
-}
-
-/// The grade of a row at a neighbour, or another where there is no neighbour; none outside the table.
-fn entry_at_neighbour<G: Grade>(
-    table: &[G],
-    count: usize,
-    row: usize,
-    neighbour: Option<usize>,
-    other: G,
-) -> Option<G>
-    ensures { SomeIff result ((y : ℕ) → neighbour ≡ Some y → place count row y < length table.now) (at_or other (grades_in G.kind count table.now row) neighbour) }
-{
-    match neighbour {
-        Some(y) => entry_of(table, count, row, y),
-        None => Some(other),
-    }
-}
-
-/// The grades of two rows at a node; none where one lies outside the table.
-fn entries_of<G: Grade>(
-    table: &[G],
-    count: usize,
-    a: usize,
-    b: usize,
-    node: usize,
-) -> Option<(G, G)>
-    ensures { SomeIff result ((place count a node < length table.now) × (place count b node < length table.now)) (grades_in G.kind count table.now a node, grades_in G.kind count table.now b node) }
-{
-    Some((
-        entry_of(table, count, a, node)?,
-        entry_of(table, count, b, node)?,
-    ))
-}
 
 /// The grade that a term gives at a node, by tables of marks (a row for each tag) and values (a row for each term).
 ///
@@ -61,28 +21,29 @@ pub fn grade_of<G: Grade, S: Shape>(
 ) -> Option<G>
     ensures { SomeIff result (Readable (tree_of S.Shape shape.now) marks.now values.now term node) (grade_of_lem G.kind (tree_of S.Shape shape.now) (grades_in G.kind (S.count shape.now) marks.now) (grades_in G.kind (S.count shape.now) values.now) term node) }
 {
-    let count = shape.node_count();
-    if node >= count {
+    let nodes = shape.node_count();
+    if node >= nodes {
         return None;
     }
+    // The caller gives slices: how wide a row is follows from the shape, and is not the caller's to choose.
+    let marks = GradeTable {
+        grades: marks,
+        nodes,
+    };
+    let values = GradeTable {
+        grades: values,
+        nodes,
+    };
     match term {
-        Term::Mark(tag) => entry_of(marks, count, tag, node),
-        Term::Turn(a) => Some(entry_of(values, count, a, node)?.turn()),
-        Term::Meet(a, b) => {
-            let (left, right) = entries_of(values, count, a, b, node)?;
-            Some(left.meet(right))
-        }
-        Term::Join(a, b) => {
-            let (left, right) = entries_of(values, count, a, b, node)?;
-            Some(left.join(right))
-        }
+        Term::Mark(tag) => marks.at(tag, node),
+        Term::Turn(a) => Some(values.at(a, node)?.turn()),
+        Term::Meet(a, b) => Some(values.at(a, node)?.meet(values.at(b, node)?)),
+        Term::Join(a, b) => Some(values.at(a, node)?.join(values.at(b, node)?)),
         Term::SomeNeighbour(axis, a) => {
-            let there = shape.neighbour(axis, node);
-            entry_at_neighbour(values, count, a, there, G::lowest())
+            values.at_neighbour(a, shape.neighbour(axis, node), G::lowest())
         }
         Term::EveryNeighbour(axis, a) => {
-            let there = shape.neighbour(axis, node);
-            entry_at_neighbour(values, count, a, there, G::highest())
+            values.at_neighbour(a, shape.neighbour(axis, node), G::highest())
         }
         Term::Lowest => Some(G::lowest()),
         Term::Highest => Some(G::highest()),

@@ -3,4 +3,5 @@
 
 pub mod examples;
 pub mod grade_of;
+pub mod table;
 pub mod theorems;

@@ -4,39 +4,29 @@ ghost use Rattle.meaning.specs.Theorems.{OneSolution, ReachedByRounds, KeptByRou
 use grades::grade::Grade;
 
 /// Every query has one meaning.
-pub fn one_meaning<G: Grade>() -> u8
+pub fn one_meaning<G: Grade>()
     ensures { OneSolution G.kind }
-{
-    0
-}
+{}
 
 /// Rounds from the start values lead to the meaning.
-pub fn meaning_by_rounds<G: Grade>() -> u8
+pub fn meaning_by_rounds<G: Grade>()
     ensures reached { ReachedByRounds G.kind }
     ensures kept { KeptByRounds G.kind }
-{
-    0
-}
+{}
 
 /// A map of grades that keeps the operations keeps meanings.
-pub fn meaning_carried<G: Grade, H: Grade>() -> u8
+pub fn meaning_carried<G: Grade, H: Grade>()
     ensures { Carried G.Grade.kind H.Grade.kind }
-{
-    0
-}
+{}
 
 /// For yes and no, a query means what its formulas select.
-pub fn meaning_selects() -> u8
+pub fn meaning_selects()
     ensures selects { Selects }
     ensures one { OneSelection }
-{
-    0
-}
+{}
 
 /// For stage sets, a query means at each stage what it means on that stage's marks.
-pub fn meaning_by_stage() -> u8
+pub fn meaning_by_stage()
     ensures solved { SolvedByStage }
     ensures selected { SelectedByStage }
-{
-    0
-}
+{}
