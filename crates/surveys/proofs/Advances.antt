@@ -1,8 +1,8 @@
 -- From one state to the next: what the code leaves holds the state that a step of the rules leads to.
-use Rattle.std.proofs.Common.{◌≡◌, ℕ, zero, suc, ◌-◌, ◌*◌, ◌<◌, ◌≤◌, Bool, true, false, ◌&&◌, ◌||◌, T, eqb, ltb, List, [], ◌∷◌, ◌++◌, map, length, get_or, set, Some, None, Option, sym, refl, ap, ◌∙◌, subst, ap₂, inl, inr, arith}
-use Rattle.std.specs.List.{range_with_len, AllByRecursion}
+use Rattle.std.proofs.Common.{◌≡◌, ℕ, suc, ◌*◌, ◌<◌, ◌≤◌, Bool, true, false, ◌&&◌, ◌||◌, T, eqb, List, [], ◌∷◌, ◌++◌, map, length, get_or, set, Some, None, Option, sym, refl, ap, ◌∙◌, subst, ap₂, inl, inr, arith}
+use Rattle.std.specs.List.{AllByRecursion}
 use Rattle.std.proofs.lemmas.List.{map-append, length-set, get_or-set_same, get_or-set_other}
-use Rattle.std.proofs.lemmas.Bool.{cases_eq, cases_lt, eq-eqb, ne_eqb, and_from, and_left, and_right, lt-ltb, le-ltb, cond-true, cond-false}
+use Rattle.std.proofs.lemmas.Bool.{cases_eq, cases_lt, eq-eqb, ne_eqb, and_from, and_left, and_right, cond-true, cond-false}
 use Rattle.grades.specs.Kind.{Kind, Says}
 use Rattle.shapes.specs.Tree.{Tree, Laws as TreeLaws}
 use Rattle.queries.specs.declared.block.Block.{Block}
@@ -10,8 +10,9 @@ use Rattle.queries.specs.Table.{Table, Admitted, total, no_block}
 use Rattle.meaning.specs.Solutions.{Grades}
 use Rattle.meaning.specs.Tables.{place, grades_in}
 use Rattle.queues.specs.declared.queue.Queue.{Queue}
-use Rattle.queues.specs.Calls.{front, head_of}
-use Rattle.queues.specs.Threads.{Threads, ends_of, first, rest}
+use Rattle.queues.specs.Calls.{StaysWithin, head_of}
+use Rattle.queues.specs.Threads.{Threads, first, rest}
+use Rattle.queues.proofs.Lists.{head_first}
 use Rattle.queues.proofs.Uses.{threads_done, first_some}
 use Rattle.surveys.specs.declared.survey.Survey.{Survey}
 use Rattle.surveys.specs.declared.survey.Work.{Work}
@@ -26,7 +27,8 @@ use Rattle.surveys.specs.Standing.{Lent, lent, Roomy, Stands, Blank, place_in}
 use Rattle.surveys.specs.StepParts.{head_entry_lem, Requeued, WokenInside}
 use Rattle.surveys.specs.Stepping.{flag, AllFlagged, first_of, term_of, node_of, Heads, gives, Stored, closed, working_on}
 use Rattle.surveys.specs.Waking.{woken}
-use Rattle.surveys.proofs.Engine.{TakenUp, place_apart, place_inside, given_is, room_values}
+use Rattle.surveys.proofs.Engine.{TakenUp, given_is, room_values}
+use Rattle.surveys.proofs.Placed.{place_apart, place_inside}
 use Rattle.surveys.proofs.Numbering.{entry_of_number}
 use Rattle.surveys.proofs.Queueing.{readers_inside, queued_listed}
 
@@ -34,27 +36,8 @@ use Rattle.surveys.proofs.Queueing.{readers_inside, queued_listed}
 pub record WorkedOff {G : Type 0} (k : Kind G) (t : Tree) (q : Table) (v : Survey) (w : Work) (l : Lent G) (h : HeadEntry) (grade : G) (v' : Survey) (queue : Queue) (values : List G) (waiting : List ℕ) (all : Bool) : Type 0 where
   pub values_set : values ≡ set l.values (place t.count h.term h.node) grade
   pub lists : (m : List ℕ) → Threads l.waiting w.queue m → WokenInside t q h w.queue.size → Requeued t q h (grades_in k t.count l.values h.term h.node) grade (rest m) waiting queue
-  pub size : queue.size ≡ w.queue.size
-  pub len : length waiting ≡ length l.waiting
-  pub above : (e : ℕ) → w.queue.size ≤ e → get_or waiting e 0 ≡ get_or l.waiting e 0
+  pub stays : StaysWithin w.queue l.waiting queue waiting
   pub stored : Stored (head_of queue) v (record { block = w.block; queue = queue }) v' all
-
--- the head of a queue is the first of those that wait
-first_back : (back : List ℕ) → front (ends_of back) ≡ first back
-first_back [] = refl
-first_back (x ∷ back) = refl
-
-first_run : (a n : ℕ) (back : List ℕ) → 0 < n → first (range_with_len a n ++ back) ≡ Some a
-first_run a zero back h = absurd (omega arith)
-first_run a (suc n) back h = refl
-
-pub head_first : (w : List ℕ) (q : Queue) (l : List ℕ) → Threads w q l → head_of q ≡ first l
-head_first w q l t = elim (cases_lt q.fresh q.size) [
-  | inl less ↦ cond-true (ltb q.fresh q.size) (Some q.fresh) (front q.ends) (lt-ltb _ _ less) ∙ sym (ap first t.list ∙ first_run q.fresh (q.size - q.fresh) t.back (omega arith))
-  | inr done ↦
-      let none : q.size - q.fresh ≡ 0 = omega arith in
-      cond-false (ltb q.fresh q.size) (Some q.fresh) (front q.ends) (le-ltb _ _ done) ∙ (ap front t.ends ∙ (first_back t.back ∙ sym (ap first t.list ∙ ap (λ n. first (range_with_len q.fresh n ++ t.back)) none)))
-]
 
 -- one value set
 pub marked_here : {G : Type 0} (m : Grades G) (i x : ℕ) (g : G) → with_mark m i x g i x ≡ g
@@ -174,7 +157,7 @@ module _ {G : Type 0} (o : Opening G) (a : Admitted o.query) (laws : TreeLaws o.
   roomy = record {
     marks = stands.roomy.marks;
     values = omega (arith, stands.roomy.values, ap length worked.values_set, length-set l.values (place n term node) grade);
-    waiting = omega (arith, stands.roomy.waiting, worked.len);
+    waiting = omega (arith, stands.roomy.waiting, worked.stays.table.same_length);
   }
 
   flag_inside : b < length v.settled
@@ -197,7 +180,7 @@ module _ {G : Type 0} (o : Opening G) (a : Admitted o.query) (laws : TreeLaws o.
     nothing_waits : Blank waiting 0 (length o.query.terms * n)
     nothing_waits k from to = elim (cases_lt k queue.size) [
       | inl less ↦ done k less
-      | inr more ↦ worked.above k (omega (arith, worked.size)) ∙ up.blank k (omega (arith, worked.size)) to
+      | inr more ↦ worked.stays.table.beyond k 0 (omega (arith, worked.stays.size)) ∙ up.blank k (omega (arith, worked.stays.size)) to
     ]
 
     settled_stands : Stands o next (closed v b) (lent l.marks values waiting)
@@ -241,12 +224,12 @@ module _ {G : Type 0} (o : Opening G) (a : Admitted o.query) (laws : TreeLaws o.
         current = refl;
         stands = up.stands;
         stale = up.stale;
-        size = worked.size ∙ up.size;
+        size = worked.stays.size ∙ up.size;
         entries = left;
         some_wait = some;
         threads = requeued.threads;
         queue = refl;
-        blank = λ k from to. worked.above k (omega (arith, worked.size)) ∙ up.blank k (omega (arith, worked.size)) to;
+        blank = λ k from to. worked.stays.table.beyond k 0 (omega (arith, worked.stays.size)) ∙ up.blank k (omega (arith, worked.stays.size)) to;
       };
     }
 

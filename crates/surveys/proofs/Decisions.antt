@@ -1,5 +1,5 @@
 -- Decisions that the proofs make, and what tests and options tell.
-use Rattle.std.proofs.Common.{◌≡◌, ℕ, Bool, true, false, ◌||◌, T, ◌⊎◌, List, [], ◌∷◌, Some, None, Option, refl, ap, subst, inl, inr, arith}
+use Rattle.std.proofs.Common.{◌≡◌, ℕ, Bool, true, false, ◌||◌, T, ◌⊎◌, List, [], ◌∷◌, Some, None, Option, refl, ap, subst, inl, inr}
 use native.Mathlib.Decide.{ℕ_discrete}
 use Rattle.grades.specs.Kind.{Kind, Below, Laws as KindLaws}
 
@@ -45,18 +45,15 @@ pub right_passes : (a b : Bool) → T b → T (a || b)
 right_passes true b h = tt
 right_passes false b h = h
 
-pub clash : ◌≡◌ {A = ℕ} 0 1 → ⊥
-clash e = omega arith
-
 -- whether an option is a number
 pub option? : (w : Option ℕ) (y : ℕ) → Dec (w ≡ Some y)
-option? None y = no (λ e. clash (cc))
+option? None y = no (λ e. cc)
 option? (Some x) y = iff (λ e. ap Some e) (λ e. cc) (ℕ_discrete x y)
 
-pub none_some : {w : Option ℕ} {b : ℕ} → w ≡ None → w ≡ Some b → ⊥
-none_some p r = clash (cc)
+pub none_some : {A : Type 0} {o : Option A} {a : A} → o ≡ None → o ≡ Some a → ⊥
+none_some p r = cc
 
-pub some_some : {w : Option ℕ} {b c : ℕ} → w ≡ Some b → w ≡ Some c → b ≡ c
+pub some_some : {A : Type 0} {o : Option A} {a b : A} → o ≡ Some a → o ≡ Some b → a ≡ b
 some_some p r = cc
 
 -- whether two places are the same
@@ -72,4 +69,4 @@ grade? {k = k} laws x y =
 -- whether a list is empty
 pub empty? : {A : Type 0} (xs : List A) → Dec (xs ≡ [])
 empty? [] = yes refl
-empty? (x ∷ xs) = no (λ e. clash (cc))
+empty? (x ∷ xs) = no (λ e. cc)

@@ -1,12 +1,12 @@
 -- A step of the code is a step of the rules.
-use Rattle.std.proofs.Common.{◌≡◌, ℕ, ◌+◌, ◌*◌, ◌/◌, ◌%◌, ◌<◌, ◌≤◌, false, T, List, [], map, length, Some, None, sym, refl, ap, ◌∙◌, subst, ap₂, add-mul, arith}
+use Rattle.std.proofs.Common.{◌≡◌, ℕ, ◌*◌, ◌<◌, ◌≤◌, false, T, List, [], map, length, Some, None, sym, refl, ap, ◌∙◌, subst, ap₂, arith}
 use Rattle.std.specs.List.{range_with_len}
-use Rattle.std.proofs.lemmas.Nat.{div-mul-add, mod-mul-add, mul-le}
+use Rattle.std.proofs.lemmas.Nat.{mul-le}
 use Rattle.std.proofs.lemmas.List.FromFn.{length-range_with_len}
 use Rattle.shapes.specs.Tree.{Laws as TreeLaws}
 use Rattle.queries.specs.Table.{Admitted, blocks_terms, term_at}
 use Rattle.meaning.specs.Solutions.{grade_of_lem}
-use Rattle.meaning.specs.Tables.{place, grades_in, Readable}
+use Rattle.meaning.specs.Tables.{grades_in, Readable}
 use Rattle.meaning.proofs.Readings.{reading_reads, reading_node, grade_same}
 use Rattle.queues.specs.Threads.{Threads}
 use Rattle.queues.proofs.Uses.{rising_threads}
@@ -18,15 +18,8 @@ use Rattle.surveys.specs.Standing.{Lent, Stands, Works, Idle, Working, Blank, pl
 use Rattle.surveys.specs.Stepping.{FirstStale, TakesUp, begun}
 use Rattle.surveys.specs.Stepping.TakesUp.{goes_on as still_on, begins as anew}
 use Rattle.surveys.proofs.Numbering.{entries_listed}
+use Rattle.surveys.proofs.Placed.{place_inside}
 use Rattle.surveys.proofs.Spanning.{few_entries, span_inside}
-
--- a place of a table over n nodes is inside it
-pub place_inside : (n rows i x : ℕ) → i < rows → x < n → place n i x < rows * n
-place_inside n rows i x h node = omega (arith, add-mul i 1 n, mul-le (i + 1) n rows n (omega arith) (omega arith))
-
--- no two entries have the same place
-pub place_apart : (n i j x y : ℕ) → x < n → y < n → place n i x ≡ place n j y → (i ≡ j) × (x ≡ y)
-place_apart n i j x y hx hy e = (sym (div-mul-add i n x hx) ∙ (ap (λ p. p / n) e ∙ div-mul-add j n y hy), sym (mod-mul-add i n x hx) ∙ (ap (λ p. p % n) e ∙ mod-mul-add j n y hy))
 
 module _ {G : Type 0} (o : Opening G) (a : Admitted o.query) (laws : TreeLaws o.tree) (s : State G) (v : Survey) (l : Lent G) (stands : Stands o s v l) where
   pub room_values : length o.query.terms * o.tree.count ≤ length l.values

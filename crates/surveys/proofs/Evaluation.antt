@@ -61,7 +61,7 @@ module _ {q : Table} (a : Admitted q) (w : Work) where
       let e : h.term ≡ term_of q n w.block k.entry = ap (λ (h : HeadEntry). h.term) k.is in
       let there : h.term < length q.terms = omega (arith, term_stands a w.block n k.entry k.heads.inside) in
       let some = slice_get-get_or q.terms h.term Lowest there in
-      let clash : ◌≡◌ {A = ℕ} 0 1 = cc in omega arith
+      cc
 
   module _ {G : Type 0} (k : Kind G) (t : Tree) (marks values : List G) (h : HeadEntry) (at : Headed q t.count w h) (m : Term) (is : Some m ≡ slice_get q.terms h.term) where
     term_is : m ≡ term_at q (term_of q t.count w.block at.entry)

@@ -8,6 +8,7 @@ pub mod Engine
 pub mod Entries
 pub mod Evaluation
 pub mod FewSteps
+pub mod Fronts
 pub mod Keys
 pub mod Lasting
 pub mod Left
@@ -18,6 +19,7 @@ pub mod Numbering
 pub mod Opens
 pub mod Order
 pub mod Outcomes
+pub mod Placed
 pub mod Possible
 pub mod Promises
 pub mod Queueing

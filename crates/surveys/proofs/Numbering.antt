@@ -6,7 +6,7 @@ use Rattle.std.proofs.lemmas.Bool.{cases_order}
 use Rattle.queries.specs.Table.{Admitted, blocks_terms}
 use Rattle.queries.proofs.Deals.{Dealt}
 use Rattle.queues.specs.Threads.{In as Waits}
-use Rattle.queues.proofs.Uses.{counting_in}
+use Rattle.queues.proofs.Entries.{counting_in, in_counting}
 use Rattle.surveys.specs.Places.{Place, In, Before, Rising, Lists}
 use Rattle.surveys.specs.Places.In.{first, later}
 use Rattle.surveys.specs.Places.Rising.{none, one_more}
@@ -28,11 +28,6 @@ counting_above m a (suc n) h = (h, counting_above m (a + 1) n (omega arith))
 pub counting_rises : (a n : ℕ) → Rises (range_with_len a n)
 counting_rises a zero = tt
 counting_rises a (suc n) = (counting_above a (a + 1) n (omega arith), counting_rises (a + 1) n)
-
-pub in_counting : (k a n : ℕ) → Waits k (range_with_len a n) → k < a + n
-in_counting k a zero i = absurd i
-in_counting k a (suc n) (inl same) = omega arith
-in_counting k a (suc n) (inr i) = let h = in_counting k (a + 1) n i in omega arith
 
 -- a quotient and a remainder tell the number
 pub same_number : (n d e : ℕ) → d / n ≡ e / n → d % n ≡ e % n → d ≡ e
@@ -109,7 +104,7 @@ module _ {G : Type 0} (o : Opening G) (a : Admitted o.query) (pos : 0 < o.tree.c
   entries_listed = record {
     sound = λ p i.
         let r = place_waits o b p (range_with_len 0 (blocks_terms o.query b * o.tree.count)) i in
-        let below = in_counting r.0 0 (blocks_terms o.query b * o.tree.count) r.1.0 in
+        let below = (in_counting r.0 0 (blocks_terms o.query b * o.tree.count) r.1.0).1 in
         subst (λ z. EntryOf o b z.0 z.1) (sym r.1.1) (entry_of_number r.0 (omega (arith, below)));
     whole = λ p h.
         let r = number_of_entry p.0 p.1 h in

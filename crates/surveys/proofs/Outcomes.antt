@@ -5,7 +5,7 @@ use Rattle.surveys.specs.Calls.{Call, Answer, Calls, Does, Course}
 use Rattle.surveys.specs.Promise.{SameAnswer, SameState, SameCalls, asked}
 use Rattle.surveys.specs.Rules.{Opening, State}
 use Rattle.surveys.proofs.Courses.{sound_does}
-use Rattle.surveys.proofs.Decisions.{clash, fails_not}
+use Rattle.surveys.proofs.Decisions.{fails_not}
 use Rattle.surveys.proofs.Readings.{Accepted}
 use Rattle.surveys.proofs.SameRetags.{retags_same}
 use Rattle.surveys.proofs.SameSteps.{steps_same, no_step, makes_same}
@@ -52,8 +52,8 @@ module _ {G : Type 0} (o : Opening G) (f : Accepted o) where
   -- and so do the same calls, one after the other
   pub course_same : {s t s' t' : State G} {past past' : Calls G} → asked past ≡ asked past' → SameState o s t → Sound o s → Sound o t → Course o s past s' → Course o t past' t' → SameCalls o past past' × SameState o s' t'
   course_same e same sound sound' (Course.empty s) (Course.empty t) = (SameCalls.empty, same)
-  course_same e same sound sound' (Course.empty s) (Course.then t t' t'' d w more' does' rest') = absurd (clash (cc))
-  course_same e same sound sound' (Course.then s s' s'' c v more does rest) (Course.empty t) = absurd (clash (cc))
+  course_same e same sound sound' (Course.empty s) (Course.then t t' t'' d w more' does' rest') = cc
+  course_same e same sound sound' (Course.then s s' s'' c v more does rest) (Course.empty t) = cc
   course_same e same sound sound' (Course.then s s' s'' c v more does rest) (Course.then t t' t'' d w more' does' rest') =
       let head : c ≡ d = cc in
       let tail : asked more ≡ asked more' = cc in

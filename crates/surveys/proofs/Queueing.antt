@@ -1,9 +1,9 @@
 -- The entries that a change queues, as the rules tell them.
-use Rattle.std.proofs.Common.{◌≡◌, ℕ, zero, suc, ◌+◌, ◌-◌, ◌*◌, ◌<◌, ◌≤◌, true, false, eqb, ◌⊎◌, List, [], ◌∷◌, ◌++◌, map, length, get_or, Some, None, Option, sym, refl, ap, ◌∙◌, subst, inl, inr, add-mul, arith}
+use Rattle.std.proofs.Common.{◌≡◌, ℕ, zero, suc, ◌+◌, ◌-◌, ◌*◌, ◌<◌, ◌≤◌, ◌⊎◌, List, [], ◌∷◌, ◌++◌, map, length, get_or, Some, None, Option, sym, refl, ap, ◌∙◌, subst, inl, inr, add-mul, arith}
 use Rattle.std.specs.List.{ContainsAt as Has, AllByRecursion}
 use Rattle.std.proofs.lemmas.Nat.{mul-le}
 use Rattle.std.proofs.ByRecursion.{All-from_get_or}
-use Rattle.std.proofs.lemmas.Bool.{cases_Bool, cases_eq, eqb-true, eqb-false, or_cases, or_parts}
+use Rattle.std.proofs.lemmas.Bool.{cases_eq}
 use Rattle.shapes.specs.declared.axis.Axis.{Axis}
 use Rattle.shapes.specs.declared.axis.Axis.TheVariants.{First, Next, Owner, Previous}
 use Rattle.shapes.specs.Tree.{Tree, Laws as TreeLaws, along, back}
@@ -15,28 +15,17 @@ use Rattle.meaning.specs.Readings.{Reading}
 use Rattle.meaning.specs.Readings.Reading.{turned, met_left, met_right, joined_left, joined_right, some_there, every_there}
 use Rattle.meaning.proofs.Readings.{reading_reads}
 use Rattle.queues.specs.Threads.{In as Waits}
+use Rattle.queues.proofs.Entries.{in_or_out}
 use Rattle.surveys.specs.Places.{Place, In, Lists}
 use Rattle.surveys.specs.Rules.{Opening, EntryOf, Queued}
 use Rattle.surveys.specs.Standing.{place_in}
 use Rattle.surveys.specs.Stepping.{first_of}
-use Rattle.surveys.specs.Waking.{reader_node_lem, reading_entry_lem, numbered, in_front, woken, waits, added_by}
+use Rattle.surveys.specs.Waking.{reader_node_lem, reading_entry_lem, numbered, in_front, woken, added_by}
 use Rattle.surveys.proofs.Numbering.{Rises, place_waits, waits_place, place_waits_as, places_rise, number_of_entry}
 use Rattle.surveys.proofs.Spanning.{span_has}
 use Rattle.surveys.proofs.Wakes.{added_waits, added_new, reader_inside}
 
 -- membership
-waits_in : (e : ℕ) (l : List ℕ) → waits e l ≡ true → Waits e l
-waits_in e [] h = let clash : ◌≡◌ {A = ℕ} 0 1 = cc in absurd (omega arith)
-waits_in e (x ∷ l) h = elim (or_cases (eqb x e) (waits e l) h) [ inl same ↦ inl (eqb-true x e same) | inr g ↦ inr (waits_in e l g) ]
-
-waits_out : (e : ℕ) (l : List ℕ) → waits e l ≡ false → Waits e l → ⊥
-waits_out e [] h i = i
-waits_out e (x ∷ l) h (inl same) = eqb-false x e (or_parts (eqb x e) (waits e l) h).0 same
-waits_out e (x ∷ l) h (inr i) = waits_out e l (or_parts (eqb x e) (waits e l) h).1 i
-
-pub in_or_out : (e : ℕ) (l : List ℕ) → Waits e l ⊎ (Waits e l → ⊥)
-in_or_out e l = elim (cases_Bool (waits e l)) [ inl h ↦ inl (waits_in e l h) | inr h ↦ inr (waits_out e l h) ]
-
 push_left : (e x : ℕ) (l : List ℕ) → Waits e l → Waits e (l ++ (x ∷ []))
 push_left e x [] h = absurd h
 push_left e x (y ∷ l) (inl same) = inl same

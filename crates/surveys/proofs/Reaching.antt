@@ -5,7 +5,7 @@ use Rattle.shapes.specs.declared.axis.Axis.{Axis}
 use Rattle.queries.specs.declared.term.Term.{Term}
 use Rattle.queries.specs.declared.term.Term.TheVariants.{Mark, Turn, Meet, Join, SomeNeighbour, EveryNeighbour, Lowest, Highest}
 use Rattle.queries.specs.Table.{Table, Admitted, Reads, Reaches, by_turn, by_meet_left, by_meet_right, by_join_left, by_join_right, by_some, by_every, term_at, block_of}
-use Rattle.surveys.proofs.Decisions.{both, either, iff, clash}
+use Rattle.surveys.proofs.Decisions.{both, either, iff}
 
 -- some number below n
 some_below : (P : ℕ → Type 0) → ((i : ℕ) → Dec (P i)) → (n : ℕ) → Dec ((i : ℕ) × ((i < n) × P i))
@@ -62,13 +62,13 @@ module _ (P : ℕ → Type 0) (d : (j : ℕ) → Dec (P j)) where
 
 mark? : (m : Term) (a : ℕ) → Dec (m ≡ Mark a)
 mark? (Mark b) a = iff (ap Mark) (λ h. cc) (ℕ_discrete b a)
-mark? (Turn b) a = no (λ h. clash (cc))
-mark? (Meet b c) a = no (λ h. clash (cc))
-mark? (Join b c) a = no (λ h. clash (cc))
-mark? (SomeNeighbour x b) a = no (λ h. clash (cc))
-mark? (EveryNeighbour x b) a = no (λ h. clash (cc))
-mark? Lowest a = no (λ h. clash (cc))
-mark? Highest a = no (λ h. clash (cc))
+mark? (Turn b) a = no (λ h. cc)
+mark? (Meet b c) a = no (λ h. cc)
+mark? (Join b c) a = no (λ h. cc)
+mark? (SomeNeighbour x b) a = no (λ h. cc)
+mark? (EveryNeighbour x b) a = no (λ h. cc)
+mark? Lowest a = no (λ h. cc)
+mark? Highest a = no (λ h. cc)
 
 module _ (q : Table) (admitted : Admitted q) (tag : ℕ) where
   -- term j stands in a reached block before block b

@@ -1,6 +1,5 @@
 -- A retag does to the state that a survey and its tables hold as the rules say.
-use Rattle.std.proofs.Common.{◌≡◌, ℕ, ◌*◌, ◌%◌, ◌<◌, ◌≤◌, Bool, true, false, cond, ltb, ◌≢◌, ◌⊎◌, List, [], length, get_or, set, Some, None, Option, sym, refl, ap, ◌∙◌, subst, inl, inr, ⊎_elim, arith}
-use Rattle.std.proofs.lemmas.Nat.{mod-mul-add}
+use Rattle.std.proofs.Common.{◌≡◌, ℕ, ◌*◌, ◌<◌, ◌≤◌, Bool, true, false, cond, ltb, ◌≢◌, ◌⊎◌, List, [], length, get_or, set, Some, None, Option, sym, refl, ap, ◌∙◌, subst, inl, inr, ⊎_elim, arith}
 use Rattle.std.proofs.lemmas.List.{length-set, get_or-set_same, get_or-set_other, set-get_or}
 use Rattle.std.proofs.lemmas.Bool.{cases_lt, lt-ltb, ltb-true, cond-true, cond_both, true≢false, false≢true}
 use Rattle.grades.specs.Kind.{Kind}
@@ -12,33 +11,25 @@ use Rattle.meaning.proofs.Admitted.{block_stands}
 use Rattle.surveys.specs.declared.refusal.SurveyRefusal.TheVariants.{NotInSurvey}
 use Rattle.surveys.specs.declared.survey.Survey.{Survey}
 use Rattle.surveys.specs.declared.survey.Work.{Work}
-use Rattle.surveys.specs.Calls.{Call, Answer}
 use Rattle.surveys.specs.Calls.Answer.{altered, refused}
 use Rattle.surveys.specs.Calls.Call.{retag}
 use Rattle.surveys.specs.Calls.Does.{retags, leaves, no_such_mark}
 use Rattle.surveys.specs.Held.{ByRules}
 use Rattle.surveys.specs.Places.{Place}
 use Rattle.surveys.specs.Promise.{opening}
-use Rattle.surveys.specs.Resets.{Within, Resets, Unsettles, Clears, Releases, Restarts}
+use Rattle.queues.specs.Within.{Within}
+use Rattle.surveys.specs.Resets.{Resets, Unsettles, Clears, Releases, Restarts}
 use Rattle.surveys.specs.Rules.{Opening, State, EntryOf, Retags, start_of}
 use Rattle.surveys.specs.Retagging.{Remarks}
 use Rattle.surveys.specs.Standing.{Lent, lent, Roomy, Fits, Blank, Works, Working, Stands}
-use Rattle.surveys.proofs.Resets.{same_row, row_before, resets_within}
-
--- a place tells its node
-same_node : (n i x j y : ℕ) → x < n → y < n → place n i x ≡ place n j y → x ≡ y
-same_node n i x j y hx hy e = sym (mod-mul-add i n x hx) ∙ ap (λ p. p % n) e ∙ mod-mul-add j n y hy
+use Rattle.surveys.proofs.Decisions.{none_some, some_some}
+use Rattle.surveys.proofs.Placed.{place_apart, place_inside}
+use Rattle.surveys.proofs.Resets.{resets_within}
 
 -- a block that a tag reaches is there
 reached_stands : {q : Table} {tag b : ℕ} → Admitted q → Reaches q tag b → b < length q.blocks
 reached_stands admitted (by_mark i h e) = block_stands admitted i h
 reached_stands admitted (by_reading i j h r reaches) = block_stands admitted i h
-
-none_some : {A B : Type 0} {o : Option A} {a : A} → o ≡ None → o ≡ Some a → B
-none_some {o = o} e f = let z : ◌≡◌ {A = ℕ} 0 1 = cc in absurd (omega arith)
-
-some_some : {A : Type 0} {o : Option A} {a b : A} → o ≡ Some a → o ≡ Some b → a ≡ b
-some_some e f = cc
 
 -- what the survey says of the current block, as the rules have it
 abbrev current_of : Option Work → Option ℕ
@@ -50,18 +41,12 @@ queue_of None queue = []
 queue_of (Some work) queue = queue
 
 module _ {G : Type 0} (o : Opening G) (s : State G) (v : Survey) (l : Lent G) (st : Stands o s v l) where
-  pub stands_fits : Fits v o.tree.count (length o.query.terms) l
-  stands_fits = record { same_nodes = st.counted.nodes; same_terms = st.counted.terms; roomy = st.roomy }
-
   -- the mark that the rules have is that of the table
   mark_held : (tag node : ℕ) → node < v.nodes → tag < v.tags → grades_in o.kind v.nodes l.marks tag node ≡ s.marks tag node
   mark_held tag node hn ha = rw st.counted.nodes (st.marks tag node (omega (arith, st.counted.tags)) (omega (arith, st.counted.nodes)))
 
 -- the retags that alter nothing
 module _ {G : Type 0} (o : Opening G) (v : Survey) (l : Lent G) (node tag : ℕ) (grade : G) where
-  pub unfit_by_rules : (Fits v o.tree.count (length o.query.terms) l → ⊥) → (call : Call G) (answer : Answer G) (v' : Survey) (l' : Lent G) → ByRules o call answer v l v' l'
-  unfit_by_rules unfit call answer v' l' s st = absurd (unfit (stands_fits o s v l st))
-
   pub absent_by_rules : ((node < v.nodes) × (tag < v.tags) → ⊥) → ByRules o (retag node tag grade) (refused NotInSurvey) v l v l
   absent_by_rules absent s st = (s, (no_such_mark node tag grade (outside (cases_lt node v.nodes) (cases_lt tag v.tags)), st))
     where
@@ -106,7 +91,7 @@ module _ {G : Type 0} (o : Opening G) (admitted : Admitted o.query) (s : State G
   unreached_value b not i x e =
       let hx : x < v.nodes = omega (arith, st.counted.nodes, e.node) in
       let stays : grades_in o.kind v.nodes l'.values i x ≡ grades_in o.kind v.nodes l.values i x =
-      resets.others (place v.nodes i x) o.kind.lowest (λ j y hj hy p same. not (subst (Reaches o.query tag) (ap (block_of o.query) (same_row v.nodes j y i x hy hx same) ∙ e.dealt_here) p.1)) in
+      resets.others (place v.nodes i x) o.kind.lowest (λ j y hj hy p same. not (subst (Reaches o.query tag) (ap (block_of o.query) ((place_apart v.nodes j i y x hy hx same).0) ∙ e.dealt_here) p.1)) in
       (rw st.counted.nodes at stays) ∙ st.values i x e.term e.node
 
 -- the current work, as it was released or not
@@ -134,18 +119,18 @@ module _ {G : Type 0} (o : Opening G) (s : State G) (tag m : ℕ) (flags : List 
       }))
 
   reached_current : (before current : Option Work) (waiting waiting' : List ℕ) → Working o s before waiting → Releases o.query tag m before current waiting waiting' → (b : ℕ) → Reaches o.query tag b → s.current ≡ Some b → (current_of current ≡ None) × (queue_of current s.queue ≡ [])
-  reached_current None current waiting waiting' idle released b r e = none_some idle.none_current e
+  reached_current None current waiting waiting' idle released b r e = absurd (none_some idle.none_current e)
   reached_current (Some work) current waiting waiting' works (inl (reached, none, clears)) b r e = (ap current_of none, ap (λ c. queue_of c s.queue) none)
   reached_current (Some work) current waiting waiting' works (inr (not, stays, same)) b r e = absurd (not (rw (some_some works.current e) r))
 
   unreached_current : (before current : Option Work) (waiting waiting' : List ℕ) → Working o s before waiting → Releases o.query tag m before current waiting waiting' → (b : ℕ) → (Reaches o.query tag b → ⊥) → s.current ≡ Some b → (current_of current ≡ Some b) × (queue_of current s.queue ≡ s.queue)
-  unreached_current None current waiting waiting' idle released b not e = none_some idle.none_current e
+  unreached_current None current waiting waiting' idle released b not e = absurd (none_some idle.none_current e)
   unreached_current (Some work) current waiting waiting' works (inl (reached, none, clears)) b not e = absurd (not (subst (Reaches o.query tag) (some_some works.current e) reached))
   unreached_current (Some work) current waiting waiting' works (inr (never, stays, same)) b not e = (ap current_of stays ∙ ap Some (some_some works.current e), ap (λ c. queue_of c s.queue) stays)
 
   none_current : (before current : Option Work) (waiting waiting' : List ℕ) → Working o s before waiting → Releases o.query tag m before current waiting waiting' → s.current ≡ None → (current_of current ≡ None) × (queue_of current s.queue ≡ s.queue)
   none_current None current waiting waiting' idle (none, same) e = (ap current_of none, ap (λ c. queue_of c s.queue) none ∙ sym idle.queue)
-  none_current (Some work) current waiting waiting' works released e = none_some e works.current
+  none_current (Some work) current waiting waiting' works released e = absurd (none_some e works.current)
 
 -- whatever was released, the table is as long as before, and only its places below m may differ
 pub released_within : (q : Table) (tag m : ℕ) (before current : Option Work) (waiting waiting' : List ℕ) → Releases q tag m before current waiting waiting' → Within m waiting waiting'
@@ -157,7 +142,7 @@ released_within q tag m (Some work) current waiting waiting' (inr (not, stays, s
 module _ {G : Type 0} (o : Opening G) (admitted : Admitted o.query) (v v' : Survey) (l l' : Lent G) (node tag : ℕ) (grade : G) (hn : node < v.nodes) (ha : tag < v.tags) (differs : grades_in o.kind v.nodes l.marks tag node ≡ grade → ⊥) (marks : l'.marks ≡ set l.marks (place v.nodes tag node) grade) (r : Restarts o.kind o.query tag v v' l.values l'.values l.waiting l'.waiting) where
   module _ (s : State G) (st : Stands o s v l) where
     there : place v.nodes tag node < length l.marks
-    there = omega (arith, row_before v.nodes v.tags tag node ha hn, st.roomy.marks)
+    there = omega (arith, place_inside v.nodes v.tags tag node ha hn, st.roomy.marks)
 
     mark_set : grades_in o.kind o.tree.count l'.marks tag node ≡ grade
     mark_set = rw (marks, sym st.counted.nodes) (get_or-set_same l.marks (place v.nodes tag node) grade o.kind.lowest there)
@@ -166,7 +151,7 @@ module _ {G : Type 0} (o : Opening G) (admitted : Admitted o.query) (v v' : Surv
     mark_kept a x h hx other =
         let xv : x < v.nodes = omega (arith, st.counted.nodes) in
         let stays : grades_in o.kind v.nodes (set l.marks (place v.nodes tag node) grade) a x ≡ grades_in o.kind v.nodes l.marks a x =
-        get_or-set_other l.marks (place v.nodes tag node) (place v.nodes a x) grade o.kind.lowest (λ e. other (same_row v.nodes a x tag node xv hn e, same_node v.nodes a x tag node xv hn e)) in
+        get_or-set_other l.marks (place v.nodes tag node) (place v.nodes a x) grade o.kind.lowest (λ e. other (place_apart v.nodes a tag x node xv hn e)) in
         rw (marks, sym st.counted.nodes) (stays ∙ rw st.counted.nodes (st.marks a x h hx))
 
     entries : v.terms * v.nodes ≡ length o.query.terms * o.tree.count
@@ -220,13 +205,6 @@ module _ {G : Type 0} (o : Opening G) (admitted : Admitted o.query) (v v' : Surv
   pub altered_so : (answer : Bool) → answer ≡ true → ByRules o (retag node tag grade) (altered answer) v l v' l'
   altered_so answer e = rw e altered_by_rules
 
--- the counts that a call comes with
-pub fits_as : {G : Type 0} (v : Survey) (l : Lent G) (n i n' i' : ℕ) → n ≡ n' → i ≡ i' → Fits v n i l → Fits v n' i' l
-fits_as v l n i n' i' en ei fits = record { same_nodes = fits.same_nodes ∙ en; same_terms = fits.same_terms ∙ ei; roomy = fits.roomy }
-
-pub unfit_as : {G : Type 0} (v : Survey) (l : Lent G) (n i n' i' : ℕ) → n ≡ n' → i ≡ i' → (Fits v n i l → ⊥) → Fits v n' i' l → ⊥
-unfit_as v l n i n' i' en ei unfit fits = unfit (fits_as v l n' i' n i (sym en) (sym ei) fits)
-
 -- a reset stays within the entries of the survey
 pub reset_within : {G : Type 0} (k : Kind G) (q : Table) (v : Survey) → v.terms ≡ length q.terms → (P : ℕ → Type 0) (before after : List G) → Resets k q v.nodes P before after → Within (v.terms * v.nodes) before after
 reset_within k q v e P before after resets = rw e (resets_within k q v.nodes P before after resets)
@@ -239,7 +217,7 @@ same_within n table = record { same_length = refl; beyond = λ p d h. refl }
 
 -- a mark of the survey has its place in the table
 pub mark_there : {G : Type 0} (v : Survey) (l : Lent G) (node tag : ℕ) → Roomy v l → node < v.nodes → tag < v.tags → place v.nodes tag node < length l.marks
-mark_there v l node tag roomy hn ha = omega (arith, row_before v.nodes v.tags tag node ha hn, roomy.marks)
+mark_there v l node tag roomy hn ha = omega (arith, place_inside v.nodes v.tags tag node ha hn, roomy.marks)
 
 -- what a retag answers, by whether it altered the mark
 module _ {G : Type 0} (k : Kind G) (t : Tree) (q : Table) (v : Survey) (l : Lent G) (node tag : ℕ) (grade : G) (fits : Fits v t.count (length q.terms) l) (hn : node < v.nodes) (ha : tag < v.tags) (marks' : List G) (marks : marks' ≡ set l.marks (place v.nodes tag node) grade) where

@@ -12,7 +12,7 @@ use Rattle.surveys.specs.declared.survey.Survey.{Survey}
 use Rattle.surveys.specs.declared.survey.Work.{Work}
 use Rattle.surveys.specs.declared.survey.upcoming.HeadEntry.{HeadEntry}
 use Rattle.surveys.specs.StepParts.{Requeued}
-use Rattle.surveys.specs.Stepping.{AllFlagged, FirstStale, Stored, closed, working_on}
+use Rattle.surveys.specs.Stepping.{AllFlagged, FirstStale, Stored, closed}
 use Rattle.surveys.specs.Waking.{woken, added_by}
 
 module _ {G : Type 0} (t : Tree) (q : Table) (h : HeadEntry) (old new : G) (rest waiting : List ℕ) (queue : Queue) where
@@ -36,17 +36,13 @@ pub closed_past : (v : Survey) (b : ℕ) → length v.settled ≤ b → record {
 closed_past v b h = ap (λ flags. record { nodes = v.nodes; tags = v.tags; terms = v.terms; blocks = v.blocks; settled = flags; current = None }) (sym (set_past v.settled b true h))
 
 -- what is stored, by the test of the queue
-pub stored_left : (o : Option ℕ) (v : Survey) (w : Work) (v' : Survey) (all empty : Bool) → empty ≡ not (is_some o) → empty ≡ false → v' ≡ working_on v w → all ≡ false → Stored o v w v' all
-stored_left None v w v' all empty is left e f = let clash : ◌≡◌ {A = ℕ} 0 1 = cc in absurd (omega arith)
-stored_left (Some x) v w v' all empty is left e f = (e, f)
-
 pub stored_none : (o : Option ℕ) (v : Survey) (w : Work) (v' : Survey) (all empty : Bool) → empty ≡ not (is_some o) → empty ≡ true → v' ≡ closed v w.block → Says all (AllFlagged v') → Stored o v w v' all
 stored_none None v w v' all empty is none e f = (e, f)
-stored_none (Some x) v w v' all empty is none e f = let clash : ◌≡◌ {A = ℕ} 0 1 = cc in absurd (omega arith)
+stored_none (Some x) v w v' all empty is none e f = cc
 
 -- whether a stale block was found
 pub found_says : (v : Survey) (o : Option ℕ) (all : Bool) → is_some o ≡ not all → MatchOption o (AllFlagged v) (FirstStale v) → Says all (AllFlagged v)
 found_says v None true is h = (λ _. h, λ _. tt)
-found_says v None false is h = let clash : ◌≡◌ {A = ℕ} 0 1 = cc in absurd (omega arith)
-found_says v (Some b) true is h = let clash : ◌≡◌ {A = ℕ} 0 1 = cc in absurd (omega arith)
-found_says v (Some b) false is h = ((λ n. absurd n), λ all. let e = all b h.stands in let stale = h.stale in let clash : ◌≡◌ {A = ℕ} 0 1 = cc in omega arith)
+found_says v None false is h = cc
+found_says v (Some b) true is h = cc
+found_says v (Some b) false is h = ((λ n. absurd n), λ all. let e = all b h.stands in let stale = h.stale in cc)

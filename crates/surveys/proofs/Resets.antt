@@ -1,8 +1,7 @@
 -- Blocks set back to their start values, one after the other, in a table over n nodes.
-use Rattle.std.proofs.Common.{◌≡◌, ℕ, zero, suc, ◌+◌, ◌-◌, ◌*◌, ◌/◌, ◌%◌, ◌<◌, ◌≤◌, min, Bool, false, ◌⊎◌, List, length, get_or, set, sym, refl, ap, ◌∙◌, subst, inl, inr, ⊎_elim, mul-le-mul_right, suc-mul, mul-zero, arith}
-use Rattle.std.proofs.lemmas.Nat.{div-mul-add, div-add-mod', le-div, div_below, mod_below}
+use Rattle.std.proofs.Common.{◌≡◌, ℕ, ◌+◌, ◌-◌, ◌*◌, ◌<◌, ◌≤◌, min, Bool, true, false, cond, eqb, ◌⊎◌, List, length, get_or, set, sym, refl, ap, ◌∙◌, subst, subst₂, inl, inr, ⊎_elim, arith}
 use Rattle.std.proofs.lemmas.List.{length-set, get_or-set_same, get_or-set_other, set_past, get_or_past}
-use Rattle.std.proofs.lemmas.Bool.{cases_lt, cases_eq}
+use Rattle.std.proofs.lemmas.Bool.{cases_lt, cases_eq, eq-eqb, ne_eqb, cond-true, cond-false}
 use Rattle.grades.specs.Kind.{Kind}
 use Rattle.queries.specs.declared.block.Span.{Span}
 use Rattle.queries.specs.Queries.{Spans}
@@ -10,36 +9,9 @@ use Rattle.queries.specs.Table.{Table, Admitted, Reaches, block_of, solution_at}
 use Rattle.queries.proofs.Deals.{before, before_more, before_le, in_block}
 use Rattle.meaning.specs.Rounds.{start}
 use Rattle.meaning.specs.Tables.{place}
-use Rattle.surveys.specs.Resets.{Within, Resets, Unsettles}
-
--- a place tells its row
-pub same_row : (n i x j y : ℕ) → x < n → y < n → place n i x ≡ place n j y → i ≡ j
-same_row n i x j y hx hy e = sym (div-mul-add i n x hx) ∙ ap (λ p. p / n) e ∙ div-mul-add j n y hy
-
--- the places of the rows from one up to another
-pub row_after : (n low i x : ℕ) → low ≤ i → low * n ≤ place n i x
-row_after n low i x h = omega (arith, mul-le-mul_right n h)
-
-pub row_before : (n high i x : ℕ) → i < high → x < n → place n i x < high * n
-row_before n high i x h hx = omega (arith, suc-mul i n, mul-le-mul_right n h)
-
--- each of these places is that of a row among them, at a node
-pub record Placed (n low high p : ℕ) : Type 0 where
-  pub row : ℕ
-  pub node : ℕ
-  pub above : low ≤ row
-  pub below : row < high
-  pub there : node < n
-  pub is : place n row node ≡ p
-
-some_node : (n high p : ℕ) → p < high * n → 0 < n
-some_node zero high p h = absurd (omega (arith, mul-zero high))
-some_node (suc n) high p h = omega arith
-
-pub placed : (n low high p : ℕ) → low * n ≤ p → p < high * n → Placed n low high p
-placed n low high p l h =
-    let some = some_node n high p h in
-    record { row = p / n; node = p % n; above = le-div low p n some l; below = div_below p n high some h; there = mod_below p n some; is = div-add-mod' p n }
+use Rattle.surveys.proofs.Placed.{Placed, placed, place_apart, place_past, place_inside}
+use Rattle.queues.specs.Within.{Within}
+use Rattle.surveys.specs.Resets.{Resets, Unsettles}
 
 -- a block's span ends after it starts, and within the terms
 pub record Spanned (q : Table) (s : Span) : Type 0 where
@@ -60,7 +32,7 @@ module _ {G : Type 0} (k : Kind G) (q : Table) (n : ℕ) where
   resets_block b s spans before after len inner outer = record {
     same_length = len;
     inside = λ i x hi hx e. let in_span = spans.all i hi e in
-        inner (place n i x) k.lowest (row_after n s.first i x in_span.0) (row_before n s.end i x in_span.1 hx) ∙ ap (λ c. start k (solution_at q c)) (sym e);
+        inner (place n i x) k.lowest (place_past n s.first i x in_span.0) (place_inside n s.end i x in_span.1 hx) ∙ ap (λ c. start k (solution_at q c)) (sym e);
     others = λ p d not. ⊎_elim (λ l. outer p d (inl l)) (λ l. ⊎_elim (λ h. absurd (at_place p not (placed n s.first s.end p l h))) (λ h. outer p d (inr h)) (cases_lt p (s.end * n))) (cases_lt p (s.first * n));
   }
     where
@@ -80,7 +52,7 @@ module _ {G : Type 0} (k : Kind G) (q : Table) (n : ℕ) where
   }
     where
       elsewhere : (i x : ℕ) → x < n → (block_of q i ≡ b → ⊥) → (j y : ℕ) → j < length q.terms → y < n → block_of q j ≡ b → place n j y ≡ place n i x → ⊥
-      elsewhere i x hx ne j y hj hy e same = ne (ap (block_of q) (sym (same_row n j y i x hy hx same)) ∙ e)
+      elsewhere i x hx ne j y hj hy e same = ne (ap (block_of q) (sym (place_apart n j i y x hy hx same).0) ∙ e)
 
       at_block : (c : ℕ) → c ≡ b → P' c
       at_block c e = rw e here
@@ -97,8 +69,56 @@ module _ {G : Type 0} (k : Kind G) (q : Table) (n : ℕ) where
   pub resets_within : (P : ℕ → Type 0) (xs ys : List G) → Resets k q n P xs ys → Within (length q.terms * n) xs ys
   resets_within P xs ys r = record {
     same_length = r.same_length;
-    beyond = λ p d h. r.others p d (λ i x hi hx _ e. omega (arith, row_before n (length q.terms) i x hi hx));
+    beyond = λ p d h. r.others p d (λ i x hi hx _ e. omega (arith, place_inside n (length q.terms) i x hi hx));
   }
+
+-- the blocks below m of which a test said yes are at their start; post tells what it may say of each
+pub record ResetWhere {G : Type 0} (k : Kind G) (q : Table) (n : ℕ) (post : ℕ → Bool → Type 0) (m : ℕ) (before after : List G) : Type 0 where
+  pub said : ℕ → Bool
+  pub each : (b : ℕ) → b < m → post b (said b)
+  pub resets : Resets k q n (λ b. (b < m) × (said b ≡ true)) before after
+
+-- what it said, with the answer of block m
+abbrev with_next : (ℕ → Bool) → ℕ → Bool → ℕ → Bool
+with_next said m here b = cond (eqb b m) here (said b)
+
+said_here : (said : ℕ → Bool) (m : ℕ) (here : Bool) (b : ℕ) → b ≡ m → with_next said m here b ≡ here
+said_here said m here b e = cond-true (eqb b m) here (said b) (eq-eqb b m e)
+
+said_before : (said : ℕ → Bool) (m : ℕ) (here : Bool) (b : ℕ) → b < m → with_next said m here b ≡ said b
+said_before said m here b h = cond-false (eqb b m) here (said b) (ne_eqb b m (λ e. omega arith))
+
+module _ {G : Type 0} (k : Kind G) (q : Table) (n : ℕ) (post : ℕ → Bool → Type 0) where
+  pub where_none : (table : List G) → ResetWhere k q n post 0 table table
+  where_none table = record { said = λ b. false; each = λ b h. absurd (omega arith); resets = resets_none k q n (λ b. (b < 0) × (false ≡ true)) (λ i h l. omega (arith, l.0)) table }
+
+  each_next : (m : ℕ) (said : ℕ → Bool) (here : Bool) → ((b : ℕ) → b < m → post b (said b)) → post m here → (b : ℕ) → b < m + 1 → post b (with_next said m here b)
+  each_next m said here each p b h =
+      ⊎_elim (λ e. subst₂ post (sym e) (sym (said_here said m here b e)) p)
+      (λ ne. let below : b < m = omega arith in subst (post b) (sym (said_before said m here b below)) (each b below))
+      (cases_eq b m)
+
+  pub where_yes : (m : ℕ) (xs ys zs : List G) → ResetWhere k q n post m xs ys → Resets k q n (λ c. c ≡ m) ys zs → post m true → ResetWhere k q n post (m + 1) xs zs
+  where_yes m xs ys zs r s p = record {
+    said = with_next r.said m true;
+    each = each_next m r.said true r.each p;
+    resets = resets_more k q n (λ b. (b < m) × (r.said b ≡ true)) (λ b. (b < m + 1) × (with_next r.said m true b ≡ true)) m
+        (λ b h. (omega (arith, h.0), said_before r.said m true b h.0 ∙ h.1)) or_here (omega arith, said_here r.said m true m refl) xs ys zs r.resets s;
+  }
+    where
+      or_here : (b : ℕ) → (b < m + 1) × (with_next r.said m true b ≡ true) → ((b < m) × (r.said b ≡ true)) ⊎ (b ≡ m)
+      or_here b h = ⊎_elim (λ e. inr e) (λ ne. let below : b < m = omega (arith, h.0) in inl (below, sym (said_before r.said m true b below) ∙ h.1)) (cases_eq b m)
+
+  pub where_no : (m : ℕ) (xs ys : List G) → ResetWhere k q n post m xs ys → post m false → ResetWhere k q n post (m + 1) xs ys
+  where_no m xs ys r p = record {
+    said = with_next r.said m false;
+    each = each_next m r.said false r.each p;
+    resets = resets_like k q n (λ b. (b < m) × (r.said b ≡ true)) (λ b. (b < m + 1) × (with_next r.said m false b ≡ true))
+        (λ b h. (omega (arith, h.0), said_before r.said m false b h.0 ∙ h.1)) not_here xs ys r.resets;
+  }
+    where
+      not_here : (b : ℕ) → (b < m + 1) × (with_next r.said m false b ≡ true) → (b < m) × (r.said b ≡ true)
+      not_here b h = ⊎_elim (λ e. absurd (let no = sym (said_here r.said m false b e) ∙ h.1 in cc)) (λ ne. let below : b < m = omega (arith, h.0) in (below, sym (said_before r.said m false b below) ∙ h.1)) (cases_eq b m)
 
 -- blocks made stale, one after the other
 module _ (q : Table) (tag : ℕ) where

@@ -1,5 +1,6 @@
 -- Readings: the part of the value table that is a term's row.
-use Rattle.std.proofs.Common.{◌≡◌, ℕ, ◌+◌, ◌*◌, ◌<◌, ◌≤◌, false, T, List, length, get_or, take, drop, sym, ap, ◌∙◌, subst, mul-le-mul_right, add-mul, one-mul, arith}
+use Rattle.std.proofs.Common.{◌≡◌, ℕ, ◌+◌, ◌*◌, ◌<◌, ◌≤◌, false, T, List, length, get_or, take, drop, Ok, Err, Result, IsErrAnd, sym, ap, ◌∙◌, subst, mul-le-mul_right, add-mul, one-mul, arith}
+use Rattle.std.specs.Borrow.{Bor}
 use Rattle.std.proofs.lemmas.List.{get_or-take, get_or-drop}
 use Rattle.queries.specs.Table.{Admitted, block_of}
 use Rattle.meaning.proofs.Admitted.{block_stands}
@@ -9,7 +10,7 @@ use Rattle.surveys.specs.declared.survey.Survey.{Survey}
 use Rattle.surveys.specs.Calls.{Does}
 use Rattle.surveys.specs.Calls.Call.{read}
 use Rattle.surveys.specs.Calls.Answer.{row, refused}
-use Rattle.surveys.specs.Reading.{Readable, ReadRefused}
+use Rattle.surveys.specs.Reading.{Readable, ReadRefused, of_reading}
 use Rattle.surveys.specs.Rules.{Opening, State}
 use Rattle.surveys.specs.Standing.{Lent, Stands}
 
@@ -38,3 +39,8 @@ module _ {G : Type 0} {o : Opening G} {s : State G} {v : Survey} {l : Lent G} (s
   reads_none NotSettled (fits, (stands, stale)) = Does.not_settled i stands (sym (flag stands) ∙ stale)
   reads_none AllSettled h = absurd h
   reads_none ForeignEntry h = absurd h
+
+  -- so it is where the refusal is handed on
+  pub reads_refused : (r : Result (Bor (List G)) SurveyRefusal) (why : SurveyRefusal) → IsErrAnd r (λ e. e ≡ why) → ReadRefused v o.tree.count o.query (length l.values) i why → Does o s (read i) (of_reading o.kind r) s
+  reads_refused (Ok part) why h w = absurd h
+  reads_refused (Err e) why h w = rw h (reads_none why w)

@@ -1,16 +1,17 @@
 -- The answers of a step: each as the rules say, with its cause.
-use Rattle.std.proofs.Common.{◌≡◌, ℕ, ◌*◌, ◌<◌, Bool, T, List, [], ◌∷◌, length, get_or, set, Some, sym, refl, ap, ◌∙◌, subst, ap₂, subst₂, inl, inr, arith}
+use Rattle.std.proofs.Common.{◌≡◌, ℕ, ◌*◌, ◌<◌, Bool, T, List, [], ◌∷◌, length, get_or, set, Some, sym, refl, ap, ◌∙◌, subst, ap₂, inl, inr, arith}
 use Rattle.std.proofs.lemmas.List.{length-set, get_or-set_other}
 use Rattle.std.proofs.lemmas.Bool.{cases_order}
-use Rattle.grades.specs.Kind.{Kind, Says}
+use Rattle.grades.specs.Kind.{Kind}
 use Rattle.shapes.specs.Tree.{Tree, Laws as TreeLaws}
 use Rattle.queries.specs.Table.{Table, Admitted, blocks_terms}
 use Rattle.meaning.specs.Solutions.{Grades}
 use Rattle.meaning.specs.Tables.{place}
 use Rattle.queues.specs.declared.queue.Queue.{Queue}
 use Rattle.queues.specs.Threads.{first, In as Waits}
+use Rattle.queues.proofs.Lists.{head_first}
 use Rattle.queues.proofs.Uses.{threads_below}
-use Rattle.surveys.specs.declared.refusal.SurveyRefusal.TheVariants.{TableOrCounts, AllSettled, ForeignEntry}
+use Rattle.surveys.specs.declared.refusal.SurveyRefusal.TheVariants.{AllSettled, ForeignEntry}
 use Rattle.surveys.specs.declared.survey.Survey.{Survey}
 use Rattle.surveys.specs.declared.survey.Work.{Work}
 use Rattle.surveys.specs.declared.survey.upcoming.HeadEntry.{HeadEntry}
@@ -19,13 +20,13 @@ use Rattle.surveys.specs.Calls.Call.{step}
 use Rattle.surveys.specs.Calls.Does.{nothing_left}
 use Rattle.surveys.specs.Held.{ByRules, AlteredAtMost}
 use Rattle.surveys.specs.Promise.{opening}
-use Rattle.surveys.specs.Rules.{Opening, State}
-use Rattle.surveys.specs.Standing.{Lent, lent, Fits, Stands}
+use Rattle.surveys.specs.Standing.{Lent, lent, Fits}
 use Rattle.surveys.specs.StepParts.{Evaluated}
 use Rattle.surveys.specs.Stepping.{FirstStale, NothingLeft, TakesUp, begun, term_of, node_of, Evaluates, gives, WorksOff}
 use Rattle.surveys.specs.Stepping.TakesUp.{goes_on, begins}
-use Rattle.surveys.proofs.Advances.{WorkedOff, head_first, advances}
-use Rattle.surveys.proofs.Engine.{TakenUp, taken_up, readable, place_inside}
+use Rattle.surveys.proofs.Advances.{WorkedOff, advances}
+use Rattle.surveys.proofs.Engine.{TakenUp, taken_up, readable}
+use Rattle.surveys.proofs.Placed.{place_inside}
 use Rattle.surveys.proofs.Numbering.{entry_of_number}
 use Rattle.surveys.proofs.Spanning.{term_stands}
 
@@ -46,8 +47,8 @@ stale_once : (v : Survey) (b c : ℕ) → FirstStale v b → FirstStale v c → 
 stale_once v b c h k = elim (cases_order b c) [
   | inl same ↦ same
   | inr other ↦ elim other [
-    | inl less ↦ let e = k.before b less in let f = h.stale in let clash : ◌≡◌ {A = ℕ} 0 1 = cc in absurd (omega arith)
-    | inr more ↦ let e = h.before c more in let f = k.stale in let clash : ◌≡◌ {A = ℕ} 0 1 = cc in absurd (omega arith)
+    | inl less ↦ let e = k.before b less in let f = h.stale in cc
+    | inr more ↦ let e = h.before c more in let f = k.stale in cc
   ]
 ]
 
@@ -58,15 +59,12 @@ takes_up_once (begins b e h) (goes_on w' e') = cc
 takes_up_once {q} {n} {v} (begins b e h) (begins c e' k) = ap (begun q n) (stale_once v b c h k)
 
 pub takes_up_some : {q : Table} {n : ℕ} {v : Survey} {w : Work} → TakesUp q n v w → NothingLeft v → ⊥
-takes_up_some (goes_on w e) none = let f = none.none_current in let clash : ◌≡◌ {A = ℕ} 0 1 = cc in omega arith
-takes_up_some (begins b e h) none = let f = none.all_flagged b h.stands in let g = h.stale in let clash : ◌≡◌ {A = ℕ} 0 1 = cc in omega arith
+takes_up_some (goes_on w e) none = let f = none.none_current in cc
+takes_up_some (begins b e h) none = let f = none.all_flagged b h.stands in let g = h.stale in cc
 
 pub works_off_not : {G : Type 0} (t : Tree) (q : Table) (v : Survey) (l : Lent G) (w : Work) → TakesUp q t.count v w → ((e : ℕ) → Evaluates t q l.marks l.values w e → ⊥) → WorksOff t q v l → ⊥
 works_off_not t q v l w up none works =
     none works.entry (subst (λ w. Evaluates t q l.marks l.values w works.entry) (takes_up_once works.takes_up up) works.evaluates)
-
-pub fits_as : {G : Type 0} (v : Survey) (l : Lent G) (n m nodes terms : ℕ) (r : Bool) → n ≡ nodes → m ≡ terms → Says r (Fits v n m l) → Says r (Fits v nodes terms l)
-fits_as v l n m nodes terms r e f says = subst₂ (λ n m. Says r (Fits v n m l)) e f says
 
 -- an entry of the block has its place in the values
 pub entry_inside : {G : Type 0} (k : Kind G) (t : Tree) (q : Table) → Admitted q → (v : Survey) (l : Lent G) (w : Work) (h : HeadEntry) (grade : G) → Fits v t.count (length q.terms) l → Evaluated k t q l.marks l.values w h grade → (h.node < t.count) × (place t.count h.term h.node < length l.values)
@@ -80,23 +78,16 @@ pub takes_so : {G : Type 0} (k : Kind G) (t : Tree) (q : Table) (l : Lent G) (w 
     values ≡ set l.values (place t.count (term_of q t.count w.block ev.entry) (node_of t.count ev.entry)) (gives k t q l.marks l.values w.block ev.entry)
 takes_so k t q l w h grade values ev is = is ∙ ap₂ (λ (h : HeadEntry) g. set l.values (place t.count h.term h.node) g) ev.is ev.graded
 
--- a survey that holds a state fits
-stands_fit : {G : Type 0} (o : Opening G) (s : State G) (v : Survey) (l : Lent G) → Stands o s v l → Fits v o.tree.count (length o.query.terms) l
-stands_fit o s v l stands = record { same_nodes = stands.counted.nodes; same_terms = stands.counted.terms; roomy = stands.roomy }
-
 -- some entry waits, and can be worked off
 some_first : (m : List ℕ) → (m ≡ [] → ⊥) → (e : ℕ) × (first m ≡ Some e)
 some_first [] h = absurd (h refl)
 some_first (x ∷ m) h = (x, refl)
 
 first_in : (m : List ℕ) (e : ℕ) → first m ≡ Some e → Waits e m
-first_in [] e h = let clash : ◌≡◌ {A = ℕ} 0 1 = cc in absurd (omega arith)
+first_in [] e h = cc
 first_in (x ∷ m) e h = inl (cc)
 
 module _ {G : Type 0} (k : Kind G) (t : Tree) (q : Table) (a : Admitted q) (laws : TreeLaws t) (v : Survey) (l : Lent G) (m : Grades G) where
-  pub other_counts : (Fits v t.count (length q.terms) l → ⊥) → ByRules (opening k t q m) step (refused TableOrCounts) v l v l
-  other_counts fits s stands = absurd (fits (stands_fit (opening k t q m) s v l stands))
-
   pub all_settled : NothingLeft v → ByRules (opening k t q m) step (refused AllSettled) v l v l
   all_settled none s stands = (s, (nothing_left (λ b h. subst T (sym (none.all_flagged b (omega (arith, stands.counted.blocks))) ∙ stands.settled b h) tt), stands))
 

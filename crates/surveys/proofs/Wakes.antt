@@ -9,7 +9,9 @@ use Rattle.queries.specs.declared.term.Term.{Term}
 use Rattle.queries.specs.declared.term.Term.TheVariants.{Mark, Turn, Meet, Join, SomeNeighbour, EveryNeighbour, Lowest, Highest}
 use Rattle.queries.specs.Table.{Table}
 use Rattle.queues.specs.declared.queue.Queue.{Queue}
+use Rattle.queues.specs.Calls.{StaysWithin}
 use Rattle.queues.specs.Threads.{In, Threads}
+use Rattle.queues.proofs.Within.{stays_same, stays_both}
 use Rattle.surveys.specs.Waking.{reader_node_lem, numbered, reading_entry_lem, in_front, woken, waits, added_by}
 use Rattle.surveys.proofs.Evaluation.{found_at}
 
@@ -26,7 +28,7 @@ reads_found t q first y r m o e h = ap (numbered first t.count r) (h ∙ ap (λ 
 pub found_below : (terms : List Term) (i : ℕ) (m : Term) → Some m ≡ slice_get terms i → i < length terms
 found_below terms i m e = elim (cases_lt i (length terms)) [
   | inl h ↦ h
-  | inr h ↦ let none = slice_get_past terms i h in let clash : ◌≡◌ {A = ℕ} 0 1 = cc in absurd (omega arith)
+  | inr h ↦ let none = slice_get_past terms i h in cc
 ]
 
 -- a reader of a node stands at a node
@@ -34,14 +36,14 @@ at_inside : (t : Tree) → (x y : ℕ) → x < t.count → Some y ≡ Some x →
 at_inside t x y h e = let same : y ≡ x = cc in omega arith
 
 pub reader_inside : (t : Tree) → TreeLaws t → (m : Term) (x y : ℕ) → x < t.count → Some y ≡ reader_node_lem t m x → y < t.count
-reader_inside t laws (Mark a) x y h e = let clash : ◌≡◌ {A = ℕ} 0 1 = cc in absurd (omega arith)
+reader_inside t laws (Mark a) x y h e = cc
 reader_inside t laws (Turn a) x y h e = at_inside t x y h e
 reader_inside t laws (Meet a b) x y h e = at_inside t x y h e
 reader_inside t laws (Join a b) x y h e = at_inside t x y h e
 reader_inside t laws (SomeNeighbour axis a) x y h e = laws.inside (back axis) x y (sym e)
 reader_inside t laws (EveryNeighbour axis a) x y h e = laws.inside (back axis) x y (sym e)
-reader_inside t laws Lowest x y h e = let clash : ◌≡◌ {A = ℕ} 0 1 = cc in absurd (omega arith)
-reader_inside t laws Highest x y h e = let clash : ◌≡◌ {A = ℕ} 0 1 = cc in absurd (omega arith)
+reader_inside t laws Lowest x y h e = cc
+reader_inside t laws Highest x y h e = cc
 
 -- the test of waiting
 pub in_waits : (e : ℕ) (l : List ℕ) → In e l → waits e l ≡ true
@@ -110,22 +112,20 @@ module _ (t : Tree) (q : Table) (first y : ℕ) (readers : List ℕ) where
 
   -- what the loop keeps, from the table w₀ and the queue q₀ on
   pub record WokenSoFar (w₀ : List ℕ) (q₀ : Queue) (w : List ℕ) (queue : Queue) (i : ℕ) : Type 0 where
-    pub size : queue.size ≡ q₀.size
-    pub above : (k : ℕ) → q₀.size ≤ k → get_or w k 0 ≡ get_or w₀ k 0
+    pub stays : StaysWithin q₀ w₀ queue w
     pub lists : (l : List ℕ) → Threads w₀ q₀ l → AllByRecursion (λ e. e < q₀.size) (woken t q first y readers) → LeftToPut w queue q₀.size i l
 
   pub so_far_none : (w₀ : List ℕ) (q₀ : Queue) → WokenSoFar w₀ q₀ w₀ q₀ 0
-  so_far_none w₀ q₀ = record { size = refl; above = λ k h. refl; lists = left_all w₀ q₀ }
+  so_far_none w₀ q₀ = record { stays = stays_same q₀ w₀; lists = left_all w₀ q₀ }
 
   pub so_far_skip : (w₀ : List ℕ) (q₀ : Queue) (w : List ℕ) (queue : Queue) (i : ℕ) → i < length readers → None ≡ reading_entry_lem t q first y (get_or readers i 0) → WokenSoFar w₀ q₀ w queue i → WokenSoFar w₀ q₀ w queue (i + 1)
-  so_far_skip w₀ q₀ w queue i h e s = record { size = s.size; above = s.above; lists = λ l threads inside. left_skip w queue q₀.size i l h e (s.lists l threads inside) }
+  so_far_skip w₀ q₀ w queue i h e s = record { stays = s.stays; lists = λ l threads inside. left_skip w queue q₀.size i l h e (s.lists l threads inside) }
 
   pub so_far_put : (w₀ : List ℕ) (q₀ : Queue) (w w' : List ℕ) (queue queue' : Queue) (i e : ℕ) (b : Bool) → i < length readers → Some e ≡ reading_entry_lem t q first y (get_or readers i 0) →
-      queue'.size ≡ queue.size → ((k : ℕ) → queue.size ≤ k → get_or w' k 0 ≡ get_or w k 0) →
+      StaysWithin queue w queue' w' →
       ((l : List ℕ) → Threads w queue l → e < queue.size → MatchBool b ((In e l → ⊥) × Threads w' queue' (l ++ e ∷ [])) (In e l × Threads w' queue' l)) →
       WokenSoFar w₀ q₀ w queue i → WokenSoFar w₀ q₀ w' queue' (i + 1)
-  so_far_put w₀ q₀ w w' queue queue' i e b h is size above put s = record {
-    size = size ∙ s.size;
-    above = λ k le. above k (omega (arith, s.size)) ∙ s.above k le;
-    lists = λ l threads inside. left_put w w' queue queue' q₀.size i e l b s.size h is put (s.lists l threads inside);
+  so_far_put w₀ q₀ w w' queue queue' i e b h is stays put s = record {
+    stays = stays_both s.stays stays;
+    lists = λ l threads inside. left_put w w' queue queue' q₀.size i e l b s.stays.size h is put (s.lists l threads inside);
   }

@@ -4,6 +4,7 @@ pub mod Held
 pub mod Opens
 pub mod Places
 pub mod Promise
+pub mod Queried
 pub mod Reading
 pub mod Readings
 pub mod Refusals

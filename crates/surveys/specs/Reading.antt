@@ -1,5 +1,5 @@
 -- What a reading answers, for every survey and table.
-use Rattle.std.specs.Prelude.{◌≡◌, ℕ, ◌*◌, ◌<◌, ◌≤◌, true, false, List, length, get_or, Ok, Err, Result, slice_index_or}
+use Rattle.std.specs.Prelude.{◌≡◌, ℕ, ◌*◌, ◌<◌, ◌≤◌, true, false, List, length, Ok, Err, Result, slice_index_or}
 use Rattle.std.specs.Borrow.{Bor}
 use Rattle.grades.specs.Kind.{Kind}
 use Rattle.queries.specs.Table.{Table, block_of}
@@ -19,7 +19,7 @@ pub record ValuesFit (v : Survey) (n terms size : ℕ) : Type 0 where
 pub record Readable (v : Survey) (n : ℕ) (q : Table) (size term : ℕ) : Type 0 where
   pub fits : ValuesFit v n (length q.terms) size
   pub stands : term < length q.terms
-  pub settled : get_or v.settled (block_of q term) false ≡ true
+  pub settled : slice_index_or v.settled (block_of q term) false ≡ true
 
 abbrev pub ReadRefused : Survey → ℕ → Table → ℕ → ℕ → SurveyRefusal → Type 0
 ReadRefused v n q size term TableOrCounts = ValuesFit v n (length q.terms) size → ⊥
@@ -30,5 +30,5 @@ ReadRefused v n q size term ForeignEntry = ⊥
 
 -- the answer of a reading as an answer of the rules
 abbrev pub of_reading : {G : Type 0} → Kind G → Result (Bor (List G)) SurveyRefusal → Answer G
-of_reading k (Ok s) = row (λ x. get_or s.now x k.lowest)
+of_reading k (Ok s) = row (λ x. slice_index_or s.now x k.lowest)
 of_reading k (Err why) = refused why

@@ -4,13 +4,13 @@ use Rattle.grades.specs.Kind.{Kind}
 use Rattle.queries.specs.Table.{Table, Reaches, block_of, direction}
 use Rattle.meaning.specs.Rounds.{start}
 use Rattle.meaning.specs.Tables.{place, grades_in}
+use Rattle.queues.specs.Within.{Within}
 use Rattle.surveys.specs.declared.survey.Survey.{Survey}
 use Rattle.surveys.specs.declared.survey.Work.{Work}
 
--- the table is as long as before, and its places from n on are as they were
-pub record Within {A : Type 0} (n : ℕ) (before after : List A) : Type 0 where
-  pub same_length : length after ≡ length before
-  pub beyond : (p : ℕ) (d : A) → n ≤ p → slice_index_or after p d ≡ slice_index_or before p d
+-- the table has a place for each term at each of n nodes
+abbrev pub HasRows : {A : Type 0} → Table → ℕ → List A → Type 0
+HasRows q n table = length q.terms * n ≤ length table
 
 -- in a table over n nodes the terms of the blocks of which P holds are at their start values, and every other place is as it was
 pub record Resets {G : Type 0} (k : Kind G) (q : Table) (n : ℕ) (P : ℕ → Type 0) (before after : List G) : Type 0 where

@@ -1,6 +1,12 @@
 //! Calls on a survey, and what they answer.
+ghost use Rattle.std.specs.Prelude.{◌≡◌};
+ghost use Rattle.surveys.specs.declared.call.CallFailure.TheVariants.{Refused as CallRefused, NoMemory as RowNotCopied};
+ghost use Rattle.surveys.specs.declared.call.ConductRefusal.TheVariants.{NoMemory, NotOpened};
+
 use crate::refusal::SurveyRefusal;
 use crate::survey::retag::Mark;
+use std::alloc::{AllocError, AllocFailed};
+use thiserror::Error;
 
 #[derive(Clone, Copy)]
 pub enum Call<G> {
@@ -12,6 +18,7 @@ pub enum Call<G> {
     Read(usize),
 }
 
+/// What a call answers that is not refused.
 #[derive(Drop)]
 pub enum Answer<G> {
     /// Whether a retag altered its mark.
@@ -22,14 +29,56 @@ pub enum Answer<G> {
     Ran(u32, bool),
     /// A row, copied.
     Row(Vec<G>),
+}
+
+/// Why a call has no answer to keep.
+#[derive(Clone, Copy, PartialEq, Eq, Debug)]
+pub(crate) enum CallFailure {
     Refused(SurveyRefusal),
+    /// Want of memory for the copy of a row.
+    NoMemory,
+}
+
+impl From<SurveyRefusal> for CallFailure {
+    ghost from_gives = { λ why failure. failure ≡ CallRefused why };
+
+    fn from(why: SurveyRefusal) -> Self {
+        Self::Refused(why)
+    }
+}
+
+impl From<AllocError> for CallFailure {
+    ghost from_gives = { λ _ failure. failure ≡ RowNotCopied };
+
+    fn from(_e: AllocError) -> Self {
+        Self::NoMemory
+    }
 }
 
 /// Why a list of calls was not made.
-#[derive(Clone, Copy, PartialEq, Eq, Debug)]
+#[derive(Clone, Copy, PartialEq, Eq, Debug, Error)]
 pub enum ConductRefusal {
     /// The survey could not be opened.
+    #[error("the survey was not opened: {0}")]
     NotOpened(SurveyRefusal),
     /// Want of memory, after some of the calls.
+    #[error("memory ran out")]
     NoMemory,
+}
+
+// By hand, since the derive's conversions promise nothing of the refusal.
+impl From<SurveyRefusal> for ConductRefusal {
+    ghost from_gives = { λ why refusal. refusal ≡ NotOpened why };
+
+    fn from(why: SurveyRefusal) -> Self {
+        Self::NotOpened(why)
+    }
+}
+
+impl<T: Drop> From<AllocFailed<T>> for ConductRefusal {
+    ghost from_gives = { λ _ refusal. refusal ≡ NoMemory };
+
+    fn from(_failed: AllocFailed<T>) -> Self {
+        Self::NoMemory
+    }
 }

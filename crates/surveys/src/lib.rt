@@ -4,5 +4,6 @@
 pub mod call;
 pub mod conduct;
 pub mod promise;
+pub mod queried;
 pub mod refusal;
 pub mod survey;

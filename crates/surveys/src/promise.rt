@@ -5,18 +5,14 @@ ghost use Rattle.surveys.specs.Readings.{SelectsSettled, SolvesByStage, SelectsB
 use grades::grade::Grade;
 
 /// Whatever calls are made on a survey, it keeps its promise.
-pub fn promise_kept<G: Grade>() -> u8
+pub fn promise_kept<G: Grade>()
     ensures { PromiseKept G.kind }
-{
-    0
-}
+{}
 
 /// Settled rows are what the query's formulas select, for stage sets at each stage.
-pub fn rows_select() -> u8
+pub fn rows_select()
     ensures yes_no { SelectsSettled }
     ensures solved { SolvesByStage }
     ensures selected { SelectsByStage }
     ensures read { ReadsByStage }
-{
-    0
-}
+{}

@@ -15,12 +15,15 @@ mod waking;
 /// Where a survey stands: the counts of its opening, the blocks that are settled, and the current one.
 ///
 /// Marks, values and the places of the queue lie in tables that each call is lent.
+// They go together through the calls and stay slices: lent tables are a rule of the project, and a struct of `&mut` would ask more of
+// callers that share their marks.
 #[derive(Clone, Copy)]
 pub struct Survey {
     nodes: usize,
     tags: usize,
     terms: usize,
     blocks: usize,
+    // A buffer with `blocks` beside it: fixed memory is a rule of the project, and with a `Vec` opening could lack memory.
     settled: [bool; 64],
     current: Option<Work>,
 }

@@ -1,43 +1,34 @@
 //! Whether a term can be read.
-ghost use Rattle.std.specs.Result.{MatchResult};
-ghost use Rattle.grades.specs.Kind.{Says};
-ghost use Rattle.queries.specs.Queries.{table_of};
-ghost use Rattle.surveys.specs.Reading.{Readable, ReadRefused, ValuesFit};
+ghost use Rattle.std.specs.Prelude.{MatchResult};
+ghost use Rattle.surveys.specs.Queried.{table_in};
+ghost use Rattle.surveys.specs.Reading.{Readable, ReadRefused};
 
+use crate::queried::QueriedShape;
 use crate::refusal::SurveyRefusal;
 use crate::survey::Survey;
-use queries::query::Query;
+use shapes::shape::Shape;
 
 impl Survey {
-    /// Whether a term of a query over `nodes` nodes can be read from a value table of that size.
-    pub(super) fn check_reading(
+    /// Whether a term can be read from a value table of that size.
+    pub(super) fn check_reading<S: Shape>(
         &self,
-        nodes: usize,
-        query: &Query,
+        queried: &QueriedShape<'_, S>,
         size: usize,
         term: usize,
     ) -> Result<(), SurveyRefusal>
-        ensures { MatchResult result (λ _. Readable self.now nodes (table_of query.now) size term) (ReadRefused self.now nodes (table_of query.now) size term) }
+        ensures { MatchResult result
+            (λ _. Readable self.now (S.count queried.now.shape.now) (table_in queried.now) size term)
+            (ReadRefused self.now (S.count queried.now.shape.now) (table_in queried.now) size term) }
     {
-        if !self.has_counts(nodes, query.term_count(), size) {
+        if !self.fits_values(queried, size) {
             return Err(SurveyRefusal::TableOrCounts);
         }
-        let Some(block) = query.block_of(term) else {
+        let Some(block) = queried.query.block_of(term) else {
             return Err(SurveyRefusal::NotInSurvey);
         };
         if !self.is_settled(block) {
             return Err(SurveyRefusal::NotSettled);
         }
         Ok(())
-    }
-
-    /// Whether the counts are those of opening, and a value table of that size is long enough.
-    fn has_counts(&self, nodes: usize, terms: usize, size: usize) -> bool
-        ensures { Says result (ValuesFit self.now nodes terms size) }
-    {
-        match terms.checked_mul(nodes) {
-            Some(entries) => self.nodes == nodes && self.terms == terms && entries <= size,
-            None => false,
-        }
     }
 }

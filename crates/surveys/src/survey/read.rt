@@ -2,41 +2,40 @@
 ghost use Rattle.std.specs.Prelude.{◌≡◌, ℕ, ◌+◌, ◌*◌, ◌≤◌, List, length, take, drop, IfOk, MatchResult};
 ghost use denote.Param.{layout};
 ghost use prog.Memory.{size as bytes_of};
-ghost use Rattle.shapes.specs.Shapes.{tree_of};
-ghost use Rattle.queries.specs.Queries.{table_of};
 ghost use Rattle.meaning.specs.Solutions.{Grades};
 ghost use Rattle.surveys.specs.Calls.{Does};
 ghost use Rattle.surveys.specs.Calls.Call.{read as reading};
-ghost use Rattle.surveys.specs.Promise.{opening};
+ghost use Rattle.surveys.specs.Queried.{tree_in, table_in, opening_on};
 ghost use Rattle.surveys.specs.Reading.{ReadRefused, Readable, of_reading};
 ghost use Rattle.surveys.specs.Rules.{State};
 ghost use Rattle.surveys.specs.Standing.{lent, Stands};
 
+use crate::queried::QueriedShape;
 use crate::refusal::SurveyRefusal;
 use crate::survey::Survey;
 use grades::grade::Grade;
-use queries::query::Query;
 use shapes::shape::Shape;
 
 impl Survey {
     /// The row of a term, as that part of the value table.
     pub fn read<'a, G: Grade, S: Shape>(
         &self,
-        shape: &S,
-        query: &Query,
+        queried: &QueriedShape<'_, S>,
         values: &'a [G],
         term: usize,
     ) -> Result<&'a [G], SurveyRefusal>
-        ensures causes { MatchResult result (λ _. Readable self.now (S.Shape.count shape.now) (table_of query.now) (length values.now) term) (λ e. ReadRefused self.now (S.Shape.count shape.now) (table_of query.now) (length values.now) term e) }
-        ensures row { IfOk result (λ s. s.now ≡ take (S.Shape.count shape.now) (drop (term * S.Shape.count shape.now) values.now)) }
-        ensures place { IfOk result (λ s. (s.ref_ptr.0 ≡ values.entry.ref_ptr.0) × (s.ref_ptr.1 ≡ values.entry.ref_ptr.1 + term * S.Shape.count shape.now * bytes_of (layout G.row))) }
-        ensures rules { (m : Grades G) (s : State G) (marks : List G) (waiting : List ℕ) → Stands (opening G.kind (tree_of S.Shape shape.now) (table_of query.now) m) s self.now (lent marks values.now waiting) → Does (opening G.kind (tree_of S.Shape shape.now) (table_of query.now) m) s (reading term) (of_reading G.kind result) s }
+        ensures causes { MatchResult result
+            (λ _. Readable self.now (S.count queried.now.shape.now) (table_in queried.now) (length values.now) term)
+            (λ e. ReadRefused self.now (S.count queried.now.shape.now) (table_in queried.now) (length values.now) term e) }
+        ensures row { IfOk result (λ s. s.now ≡ take (S.count queried.now.shape.now) (drop (term * S.count queried.now.shape.now) values.now)) }
+        ensures place { IfOk result (λ s. (s.ref_ptr.0 ≡ values.entry.ref_ptr.0)
+            × (s.ref_ptr.1 ≡ values.entry.ref_ptr.1 + term * S.count queried.now.shape.now * bytes_of (layout G.row))) }
+        ensures rules { (m : Grades G) (s : State G) (marks : List G) (waiting : List ℕ) →
+            Stands (opening_on G.kind S.Shape queried.now m) s self.now (lent marks values.now waiting) →
+            Does (opening_on G.kind S.Shape queried.now m) s (reading term) (of_reading G.kind result) s }
     {
-        let nodes = shape.node_count();
-        match self.check_reading(nodes, query, values.len(), term) {
-            Ok(()) => Ok(row_of(values, nodes, term)),
-            Err(why) => Err(why),
-        }
+        self.check_reading(queried, values.len(), term)?;
+        Ok(row_of(values, queried.shape.node_count(), term))
     }
 }
 

@@ -1,18 +1,18 @@
 //! Marks changed while a survey stands.
 ghost use Rattle.std.specs.Prelude.{◌≡◌, ◌*◌, ◌<◌, ◌≤◌, length, MatchBool, ◌≢◌, slice_index_or, slice_set};
 ghost use Rattle.grades.specs.Kind.{Says};
-ghost use Rattle.shapes.specs.Shapes.{tree_of};
 ghost use Rattle.queries.specs.Queries.{table_of};
-ghost use Rattle.meaning.specs.Solutions.{Grades};
+ghost use Rattle.queues.specs.Within.{Within};
 ghost use Rattle.surveys.specs.Calls.Call.{retag};
-ghost use Rattle.surveys.specs.Held.{ByRules, of_retag};
-ghost use Rattle.surveys.specs.Promise.{opening};
-ghost use Rattle.surveys.specs.Resets.{Within, Releases, Restarts};
+ghost use Rattle.surveys.specs.Held.{of_retag};
+ghost use Rattle.surveys.specs.Queried.{tree_in, table_in, KeepsRules};
+ghost use Rattle.surveys.specs.Resets.{HasRows, Releases, Restarts};
 ghost use Rattle.surveys.specs.Retagging.{RetagAnswers};
 ghost use Rattle.surveys.specs.Standing.{lent};
 
+use crate::queried::QueriedShape;
 use crate::refusal::SurveyRefusal;
-use crate::survey::reset::{reset_reached, unsettle};
+use crate::survey::reset::{reset_blocks, unsettle};
 use crate::survey::{Survey, Work};
 use grades::grade::Grade;
 use queries::query::Query;
@@ -54,7 +54,7 @@ fn release(
     if !query.reaches(tag, work.block) {
         return current;
     }
-    work.queue.clear(&mut waiting[0..entries]);
+    work.queue.clear(&mut waiting[..entries]);
     None
 }
 
@@ -66,6 +66,7 @@ impl Survey {
     }
 
     /// Makes the blocks that a tag reaches stale, with their entries at their start values, and gives up the current one if it is reached.
+    // A struct of query and tag for this and what it calls would be no plainer: its one method would be `query.reaches(tag, block)`.
     fn restart<G: Grade>(
         &mut self,
         query: &Query,
@@ -73,11 +74,13 @@ impl Survey {
         values: &mut [G],
         waiting: &mut [u32],
     )
-        requires values { length (table_of query.now).terms * self.old.nodes ≤ length values.old }
+        requires values { HasRows (table_of query.now) self.old.nodes values.old }
         requires waiting { self.old.terms * self.old.nodes ≤ length waiting.old }
         ensures { Restarts G.kind (table_of query.now) tag self.old self.new values.old values.new waiting.old waiting.new }
     {
-        reset_reached(query, tag, self.blocks, self.nodes, values);
+        reset_blocks(query, self.blocks, self.nodes, values, |block| {
+            query.reaches(tag, block)
+        });
         unsettle(query, tag, self.blocks, &mut self.settled);
         self.current = release(self.current, query, tag, self.terms * self.nodes, waiting);
     }
@@ -87,33 +90,28 @@ impl Survey {
     /// If it did, each block that the tag reaches is stale again, with its entries at their start values. Where it is refused, all is as it was.
     pub fn retag<G: Grade, S: Shape>(
         &mut self,
-        shape: &S,
-        query: &Query,
+        queried: &QueriedShape<'_, S>,
         marks: &mut [G],
         values: &mut [G],
         waiting: &mut [u32],
         mark: Mark<G>,
     ) -> Result<bool, SurveyRefusal>
-        ensures rules { (m : Grades G) → ByRules (opening G.kind (tree_of S.Shape shape.now) (table_of query.now) m) (retag mark.node mark.tag mark.grade) (of_retag result) self.old (lent marks.old values.old waiting.old) self.new (lent marks.new values.new waiting.new) }
-        ensures answer { RetagAnswers G.kind (tree_of S.Shape shape.now) (table_of query.now) self.old (lent marks.old values.old waiting.old) mark.node mark.tag mark.grade self.new (lent marks.new values.new waiting.new) result }
+        ensures rules { KeepsRules G.kind S.Shape queried.now (retag mark.node mark.tag mark.grade) (of_retag result)
+            self.old (lent marks.old values.old waiting.old)
+            self.new (lent marks.new values.new waiting.new) }
+        ensures answer { RetagAnswers G.kind (tree_in S.Shape queried.now) (table_in queried.now)
+            self.old (lent marks.old values.old waiting.old) mark.node mark.tag mark.grade
+            self.new (lent marks.new values.new waiting.new) result }
         ensures values { Within (self.old.terms * self.old.nodes) values.old values.new }
         ensures waiting { Within (self.old.terms * self.old.nodes) waiting.old waiting.new }
     {
-        if !self.fits(
-            shape.node_count(),
-            query.term_count(),
-            marks,
-            values,
-            waiting,
-        ) {
-            return Err(SurveyRefusal::TableOrCounts);
-        }
+        self.check_fits(queried, marks, values, waiting)?;
         if !self.has_mark(mark.node, mark.tag) {
             return Err(SurveyRefusal::NotInSurvey);
         }
         let altered = put(marks, mark.tag * self.nodes + mark.node, mark.grade);
         if altered {
-            self.restart(query, mark.tag, values, waiting);
+            self.restart(queried.query, mark.tag, values, waiting);
         }
         Ok(altered)
     }

@@ -1,60 +1,57 @@
 //! One step of a survey: the entry at the head of the queue takes the grade of its term.
 ghost use Rattle.std.specs.Prelude.{◌≡◌, ℕ, ◌<◌, ◌≤◌, not, List, length, is_some, slice_index, slice_set};
-ghost use Rattle.shapes.specs.Shapes.{tree_of};
-ghost use Rattle.queries.specs.Queries.{table_of};
-ghost use Rattle.meaning.specs.Solutions.{Grades};
 ghost use Rattle.meaning.specs.Tables.{place, grades_in};
-ghost use Rattle.queues.specs.Calls.{head_of};
+ghost use Rattle.queues.specs.Calls.{StaysWithin, head_of};
 ghost use Rattle.queues.specs.Threads.{Threads, rest};
 ghost use Rattle.surveys.specs.Calls.Call.{step as stepping};
-ghost use Rattle.surveys.specs.Held.{ByRules, of_step, AlteredAtMost};
-ghost use Rattle.surveys.specs.Promise.{opening};
+ghost use Rattle.surveys.specs.Held.{of_step, AlteredAtMost};
+ghost use Rattle.surveys.specs.Queried.{tree_in, table_in, KeepsRules};
 ghost use Rattle.surveys.specs.Standing.{lent};
 ghost use Rattle.surveys.specs.StepParts.{Requeued, WokenInside};
 ghost use Rattle.surveys.specs.Stepping.{StepAnswers, Stored};
 
+use crate::queried::QueriedShape;
 use crate::refusal::SurveyRefusal;
-use crate::survey::upcoming::{HeadEntry, evaluated};
-use crate::survey::waking::wake;
+use crate::survey::upcoming::HeadEntry;
 use crate::survey::{Survey, Work};
 use grades::grade::Grade;
-use queries::query::Query;
 use queues::queue::Queue;
 use shapes::shape::Shape;
 
-/// Takes the entry at the head out of the queue and gives it its grade; if that changes it, its readers queue.
-fn work_off<G: Grade, S: Shape>(
-    shape: &S,
-    query: &Query,
-    entry: HeadEntry,
-    grade: G,
-    queue: &mut Queue,
-    values: &mut [G],
-    waiting: &mut [u32],
-)
-    requires node { entry.node < S.count shape.now }
-    requires inside { place (S.count shape.now) entry.term entry.node < length values.old }
-    ensures values { values.new ≡ slice_set values.old (place (S.count shape.now) entry.term entry.node) grade }
-    ensures lists { (l : List ℕ) → Threads waiting.old queue.old l → WokenInside (tree_of S.Shape shape.now) (table_of query.now) entry queue.old.size → Requeued (tree_of S.Shape shape.now) (table_of query.now) entry (grades_in G.kind (S.count shape.now) values.old entry.term entry.node) grade (rest l) waiting.new queue.new }
-    ensures size { queue.new.size ≡ queue.old.size }
-    ensures len { length waiting.new ≡ length waiting.old }
-    ensures above { (k : ℕ) → queue.old.size ≤ k → slice_index waiting.new k ≡ slice_index waiting.old k }
-{
-    let _ = queue.take(waiting);
-    let at = entry.term * shape.node_count() + entry.node;
-    if grade.same(values[at]) {
-        return;
+impl<S: Shape> QueriedShape<'_, S> {
+    /// Takes the entry at the head out of the queue and gives it its grade; if that changes it, its readers queue.
+    fn work_off<G: Grade>(
+        &self,
+        entry: HeadEntry,
+        grade: G,
+        queue: &mut Queue,
+        values: &mut [G],
+        waiting: &mut [u32],
+    )
+        requires node { entry.node < S.count self.now.shape.now }
+        requires inside { place (S.count self.now.shape.now) entry.term entry.node < length values.old }
+        ensures values { values.new ≡ slice_set values.old (place (S.count self.now.shape.now) entry.term entry.node) grade }
+        ensures lists { (l : List ℕ) → Threads waiting.old queue.old l →
+            WokenInside (tree_in S.Shape self.now) (table_in self.now) entry queue.old.size →
+            Requeued (tree_in S.Shape self.now) (table_in self.now) entry
+            (grades_in G.kind (S.count self.now.shape.now) values.old entry.term entry.node) grade
+            (rest l) waiting.new queue.new }
+        ensures stays { StaysWithin queue.old waiting.old queue.new waiting.new }
+    {
+        let _ = queue.take(waiting);
+        let at = entry.term * self.shape.node_count() + entry.node;
+        if grade.same(values[at]) {
+            return;
+        }
+        values[at] = grade;
+        self.wake(
+            entry.first,
+            entry.node,
+            self.query.readers_of(entry.term),
+            queue,
+            waiting,
+        );
     }
-    values[at] = grade;
-    wake(
-        shape,
-        query,
-        entry.first,
-        entry.node,
-        query.readers_of(entry.term),
-        queue,
-        waiting,
-    );
 }
 
 impl Work {
@@ -90,40 +87,27 @@ impl Survey {
     /// and a look at the flags of the blocks where one begins or is settled.
     pub fn step<G: Grade, S: Shape>(
         &mut self,
-        shape: &S,
-        query: &Query,
+        queried: &QueriedShape<'_, S>,
         marks: &[G],
         values: &mut [G],
         waiting: &mut [u32],
     ) -> Result<bool, SurveyRefusal>
-        ensures rules { (m : Grades G) → ByRules (opening G.kind (tree_of S.Shape shape.now) (table_of query.now) m) stepping (of_step result) self.old (lent marks.now values.old waiting.old) self.new (lent marks.now values.new waiting.new) }
-        ensures refusals { StepAnswers G.kind (tree_of S.Shape shape.now) (table_of query.now) self.old (lent marks.now values.old waiting.old) self.new (lent marks.now values.new waiting.new) result }
+        ensures rules { KeepsRules G.kind S.Shape queried.now stepping (of_step result)
+            self.old (lent marks.now values.old waiting.old)
+            self.new (lent marks.now values.new waiting.new) }
+        ensures refusals { StepAnswers G.kind (tree_in S.Shape queried.now) (table_in queried.now)
+            self.old (lent marks.now values.old waiting.old)
+            self.new (lent marks.now values.new waiting.new) result }
         ensures bounded { AlteredAtMost 1 values.old values.new × (length waiting.new ≡ length waiting.old) }
     {
-        if !self.fits(
-            shape.node_count(),
-            query.term_count(),
-            marks,
-            values,
-            waiting,
-        ) {
-            return Err(SurveyRefusal::TableOrCounts);
-        }
-        let Some(mut work) = self.next_work(shape, query) else {
+        self.check_fits(queried, marks, values, waiting)?;
+        let Some(mut work) = self.next_work(queried) else {
             return Err(SurveyRefusal::AllSettled);
         };
-        let Some(next) = evaluated(shape, query, &work, marks, values) else {
+        let Some(next) = queried.evaluated(&work, marks, values) else {
             return Err(SurveyRefusal::ForeignEntry);
         };
-        work_off(
-            shape,
-            query,
-            next.entry,
-            next.grade,
-            &mut work.queue,
-            values,
-            waiting,
-        );
+        queried.work_off(next.entry, next.grade, &mut work.queue, values, waiting);
         Ok(self.store(work))
     }
 }

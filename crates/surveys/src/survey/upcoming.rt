@@ -1,15 +1,14 @@
 //! What a step works on next: the block, the entry at the head of its queue, and the grade of that.
 ghost use Rattle.std.specs.Prelude.{◌≡◌, ℕ, ◌*◌, MatchOption};
-ghost use Rattle.shapes.specs.Shapes.{tree_of};
-ghost use Rattle.queries.specs.Queries.{table_of};
 ghost use Rattle.queries.specs.Table.{blocks_terms};
+ghost use Rattle.surveys.specs.Queried.{tree_in, table_in};
 ghost use Rattle.surveys.specs.StepParts.{Headed, Evaluated};
 ghost use Rattle.surveys.specs.Stepping.{flag, AllFlagged, FirstStale, NothingLeft, TakesUp, Heads, Evaluates};
 
+use crate::queried::QueriedShape;
 use crate::survey::{Survey, Work};
 use grades::grade::Grade;
 use meaning::grade_of::grade_of;
-use queries::query::Query;
 use queues::queue::Queue;
 use shapes::shape::Shape;
 
@@ -28,49 +27,54 @@ pub(super) struct GradedEntry<G> {
     pub(super) grade: G,
 }
 
-/// How many entries a block has; none past the blocks.
-fn block_size<S: Shape>(shape: &S, query: &Query, block: usize) -> usize
-    ensures { result ≡ blocks_terms (table_of query.now) block * S.count shape.now }
-{
-    match query.span(block) {
-        Some(span) => (span.end - span.first) * shape.node_count(),
-        None => 0,
+impl<S: Shape> QueriedShape<'_, S> {
+    /// How many entries a block has; none past the blocks.
+    fn block_size(&self, block: usize) -> usize
+        ensures { result ≡ blocks_terms (table_in self.now) block * S.count self.now.shape.now }
+    {
+        match self.query.span(block) {
+            Some(span) => (span.end - span.first) * self.shape.node_count(),
+            None => 0,
+        }
     }
-}
 
-/// The entry at the head of the queue; none where that is not of the block.
-fn head_entry<S: Shape>(shape: &S, query: &Query, work: &Work) -> Option<HeadEntry>
-    ensures { MatchOption result ((e : ℕ) → Heads (table_of query.now) (S.count shape.now) work.now e → ⊥) (λ h. Headed (table_of query.now) (S.count shape.now) work.now h) }
-{
-    let head = work.queue.head()?;
-    if head >= block_size(shape, query, work.block) {
-        return None;
+    /// The entry at the head of the queue; none where that is not of the block.
+    fn head_entry(&self, work: &Work) -> Option<HeadEntry>
+        ensures { MatchOption result
+            ((e : ℕ) → Heads (table_in self.now) (S.count self.now.shape.now) work.now e → ⊥)
+            (λ h. Headed (table_in self.now) (S.count self.now.shape.now) work.now h) }
+    {
+        let head = work.queue.head()?;
+        if head >= self.block_size(work.block) {
+            return None;
+        }
+        let first = self.query.span(work.block)?.first;
+        let nodes = self.shape.node_count();
+        Some(HeadEntry {
+            first,
+            term: first + head / nodes,
+            node: head % nodes,
+        })
     }
-    let first = query.span(work.block)?.first;
-    let nodes = shape.node_count();
-    Some(HeadEntry {
-        first,
-        term: first + head / nodes,
-        node: head % nodes,
-    })
-}
 
-/// The entry at the head of the queue, with the grade of its term.
-///
-/// None where the entry is not of the block, or its term reads outside the tables.
-pub(super) fn evaluated<G: Grade, S: Shape>(
-    shape: &S,
-    query: &Query,
-    work: &Work,
-    marks: &[G],
-    values: &[G],
-) -> Option<GradedEntry<G>>
-    ensures { MatchOption result ((e : ℕ) → Evaluates (tree_of S.Shape shape.now) (table_of query.now) marks.now values.now work.now e → ⊥) (λ p. Evaluated G.kind (tree_of S.Shape shape.now) (table_of query.now) marks.now values.now work.now p.entry p.grade) }
-{
-    let entry = head_entry(shape, query, work)?;
-    let term = query.term(entry.term)?;
-    let grade = grade_of(shape, term, entry.node, marks, values)?;
-    Some(GradedEntry { entry, grade })
+    /// The entry at the head of the queue, with the grade of its term.
+    ///
+    /// None where the entry is not of the block, or its term reads outside the tables.
+    pub(super) fn evaluated<G: Grade>(
+        &self,
+        work: &Work,
+        marks: &[G],
+        values: &[G],
+    ) -> Option<GradedEntry<G>>
+        ensures { MatchOption result
+            ((e : ℕ) → Evaluates (tree_in S.Shape self.now) (table_in self.now) marks.now values.now work.now e → ⊥)
+            (λ p. Evaluated G.kind (tree_in S.Shape self.now) (table_in self.now) marks.now values.now work.now p.entry p.grade) }
+    {
+        let entry = self.head_entry(work)?;
+        let term = self.query.term(entry.term)?;
+        let grade = grade_of(self.shape, term, entry.node, marks, values)?;
+        Some(GradedEntry { entry, grade })
+    }
 }
 
 impl Survey {
@@ -85,23 +89,18 @@ impl Survey {
     pub(super) fn first_stale(&self) -> Option<usize>
         ensures { MatchOption result (AllFlagged self.now) (λ b. FirstStale self.now b) }
     {
-        for block in 0..self.blocks {
-            if !self.is_settled(block) {
-                return Some(block);
-            }
-        }
-        None
+        (0..self.blocks).find(|&block| !self.is_settled(block))
     }
 
     /// The current work, or that of the lowest stale block from its start; none where all blocks are settled.
-    pub(super) fn next_work<S: Shape>(&self, shape: &S, query: &Query) -> Option<Work>
-        ensures { MatchOption result (NothingLeft self.now) (λ w. TakesUp (table_of query.now) (S.count shape.now) self.now w) }
+    pub(super) fn next_work<S: Shape>(&self, queried: &QueriedShape<'_, S>) -> Option<Work>
+        ensures { MatchOption result (NothingLeft self.now) (λ w. TakesUp (table_in queried.now) (S.count queried.now.shape.now) self.now w) }
     {
         if let Some(work) = self.current {
             return Some(work);
         }
         let block = self.first_stale()?;
-        let queue = Queue::rising(block_size(shape, query, block));
+        let queue = Queue::rising(queried.block_size(block));
         Some(Work { block, queue })
     }
 }

@@ -1,14 +1,13 @@
-use Rattle.std.proofs.Common.{sym, ◌∙◌, arith, below_more}
+use Rattle.std.proofs.Common.{◌≡◌, ℕ, ◌<◌, ◌≤◌, true, false, Some, None, Option, MatchOption, arith, rules}
+use Rattle.std.proofs.lemmas.Iterator.{first_from_Range}
+use borrow.Author.Tests.{tests}
+use Rattle.surveys.specs.declared.survey.Survey.{Survey}
+use Rattle.surveys.specs.Stepping.{flag, AllFlagged, FirstStale}
 use Rattle.surveys.proofs.survey.Survey.first_stale.Goals as goal
 
-pub loop-block-init : goal.loop-block-init
-loop-block-init c = λ b h. absurd (omega arith)
-
-pub returns-then-not-is_settled : goal.returns-then-not-is_settled
-returns-then-not-is_settled c = record { stands = c.loop-block-test.true; stale = sym c.is_settled.ensures ∙ c.if-not-is_settled.true; before = c.loop-block.invariant }
-
-pub loop-block-preserved : goal.loop-block-preserved
-loop-block-preserved c = below_more _ _ c.loop-block.invariant (sym c.is_settled.ensures ∙ c.if-not-is_settled.false)
+first_of_all : (v : Survey) (r : Option ℕ) → MatchOption r ((k : ℕ) → 0 ≤ k → k < v.blocks → flag v k ≡ true) (λ i. (0 ≤ i) × (i < v.blocks) × (flag v i ≡ false) × ((k : ℕ) → 0 ≤ k → k < i → flag v k ≡ true)) → MatchOption r (AllFlagged v) (λ b. FirstStale v b)
+first_of_all v None h = λ b below. h b (omega arith) below
+first_of_all v (Some b) h = record { stands = h.1; stale = h.2; before = λ c below. h.3 c (omega arith) below }
 
 pub returns : goal.returns
-returns c = λ b h. c.loop-block.invariant b (omega arith)
+returns c = first_of_all c.args.self.now c.find.result (first_from_Range _ _ _ c.find.result (λ b. flag c.args.self.now b ≡ false) (λ b. flag c.args.self.now b ≡ true) c.find.ensures.ran (λ x q k. search (rules, tests)) (λ x q k. search (rules, tests)))

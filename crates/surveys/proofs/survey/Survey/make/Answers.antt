@@ -1,26 +1,28 @@
 use Rattle.std.proofs.Common.{vec_items}
-use Rattle.surveys.proofs.Conducts.{of_call, of_row}
+use Rattle.surveys.proofs.Conducts.{of_call, of_row, kept_refused}
 use Rattle.surveys.proofs.survey.Survey.make.Goals as goal
 
-pub returns-in-Ok : goal.returns-in-Ok
-returns-in-Ok g c m = of_call c.args.call _ c.in-Retag.is (c.in-Ok.ensures.rules m)
+pub returns-in_err-altered-in-Retag : goal.returns-in_err-altered-in-Retag
+returns-in_err-altered-in-Retag g c = kept_refused _ c.from_residual.result _ c.from_residual.ensures.1 (λ m. of_call c.args.call _ c.in-Retag.is (c.in_err-altered-in-Retag.ensures.rules m))
 
-pub returns-in-Err : goal.returns-in-Err
-returns-in-Err g c m = of_call c.args.call _ c.in-Retag.is (c.in-Err.ensures.rules m)
+pub returns-in_ok-altered-in-Retag : goal.returns-in_ok-altered-in-Retag
+returns-in_ok-altered-in-Retag g c m = of_call c.args.call _ c.in-Retag.is (c.in_ok-altered-in-Retag.ensures.rules m)
 
-pub returns-in-Ok-step : goal.returns-in-Ok-step
-returns-in-Ok-step g c m = of_call c.args.call _ c.in-Step.is (c.in-Ok-step.ensures.rules m)
+pub returns-in_err-all-in-Step : goal.returns-in_err-all-in-Step
+returns-in_err-all-in-Step g c = kept_refused _ c.from_residual-in_err-all-in-Step.result _ c.from_residual-in_err-all-in-Step.ensures.1 (λ m. of_call c.args.call _ c.in-Step.is (c.in_err-all-in-Step.ensures.rules m))
 
-pub returns-in-Err-step : goal.returns-in-Err-step
-returns-in-Err-step g c m = of_call c.args.call _ c.in-Step.is (c.in-Err-step.ensures.rules m)
+pub returns-in_ok-all-in-Step : goal.returns-in_ok-all-in-Step
+returns-in_ok-all-in-Step g c m = of_call c.args.call _ c.in-Step.is (c.in_ok-all-in-Step.ensures.rules m)
 
-pub returns-in-Ok-run : goal.returns-in-Ok-run
-returns-in-Ok-run g c m = of_call c.args.call _ c.in-Run.is (c.in-Ok-run.ensures.rules m)
+pub returns-in_ok-steps-in-Run : goal.returns-in_ok-steps-in-Run
+returns-in_ok-steps-in-Run g c m = of_call c.args.call _ c.in-Run.is (c.in_ok-steps-in-Run.ensures.rules m)
 
-pub returns-in-Ok-from_slice : goal.returns-in-Ok-from_slice
-returns-in-Ok-from_slice g c m =
+pub returns-in_err-row-in-Read : goal.returns-in_err-row-in-Read
+returns-in_err-row-in-Read g c =
+    kept_refused _ c.from_residual-in_err-row-in-Read.result _ c.from_residual-in_err-row-in-Read.ensures.1
+    (λ m. of_call c.args.call _ c.in-Read.is (λ s st. (s, (c.in_err-row-in-Read.ensures.rules m s _ _ st, st))))
+
+pub returns-in_ok-from_slice-in-Read : goal.returns-in_ok-from_slice-in-Read
+returns-in_ok-from_slice-in-Read g c m =
     of_call c.args.call _ c.in-Read.is
-    (λ s st. (s, (of_row (vec_items c.in-Ok-from_slice.copy) _ g.G.Grade.kind.lowest c.in-Ok-from_slice.ensures.items (c.in-Ok-read.ensures.rules m s _ _ st), st)))
-
-pub returns-in-Err-read : goal.returns-in-Err-read
-returns-in-Err-read g c m = of_call c.args.call _ c.in-Read.is (λ s st. (s, (c.in-Err-read.ensures.rules m s _ _ st, st)))
+    (λ s st. (s, (of_row (vec_items c.in_ok-from_slice-in-Read.field-0) _ g.G.Grade.kind.lowest c.in_ok-from_slice-in-Read.ensures.items (c.in_ok-row-in-Read.ensures.rules m s _ _ st), st)))

@@ -1,4 +1,6 @@
-use Rattle.std.proofs.Common.{◌≡◌, arith}
+use Rattle.std.proofs.Common.{◌≡◌, ◌≤◌, Bool, true, false, Ok, Err, Result, is_err, refl, arith}
+use Rattle.surveys.specs.declared.refusal.SurveyRefusal.{SurveyRefusal}
+use Rattle.surveys.specs.Standing.{lent}
 use Rattle.surveys.proofs.Requeues.{found_says}
 use Rattle.surveys.proofs.Runs.{made_none, made_more, run_done, run_refused, runs_within}
 use Rattle.surveys.proofs.survey.Survey.run.Goals as goal
@@ -6,16 +8,28 @@ use Rattle.surveys.proofs.survey.Survey.run.Goals as goal
 pub loop-made-init : goal.loop-made-init
 loop-made-init g c = made_none
 
+accepted : (r : Result Bool SurveyRefusal) → false ≡ is_err r → (all : Bool) × (r ≡ Ok all)
+accepted (Ok all) h = (all, refl)
+accepted (Err why) h = cc
+
+refused : (r : Result Bool SurveyRefusal) → true ≡ is_err r → (why : SurveyRefusal) × (r ≡ Err why)
+refused (Ok all) h = cc
+refused (Err why) h = (why, refl)
+
 pub loop-made-preserved : goal.loop-made-preserved
 loop-made-preserved g c =
-    let e = c.in-Ok.ensures in
-    made_more _ c.loop-made.invariant e.rules e.bounded.0 e.bounded.1
+    let e = c.step.ensures in
+    let so = accepted c.step.result c.if-is_err.ensures.value in
+    made_more so.0 c.loop-made.invariant (λ m. rw so.1 at (e.rules m)) e.bounded.0 e.bounded.1
 
-pub returns-in-Err : goal.returns-in-Err
-returns-in-Err g c =
-    let e = c.in-Err.ensures in
-    let r = run_refused c.args.most c.loop-made.made c.is_none.result c.in-Err.field-0 (omega arith) c.loop-made.invariant e.rules e.refusals.1.0 e.refusals.1.1 (found_says c.step.new.self c.first_stale.result c.is_none.result c.is_none.ensures c.first_stale.ensures) in
-    record { rules = r.0; answer = (rw (c.node_count.ensures, c.term_count.ensures) at (c.if-not-fits.ensures.0 tt), runs_within c.args.most (omega arith) r.1) }
+pub returns-then-is_err : goal.returns-then-is_err
+returns-then-is_err g c =
+    let few : c.loop-made.made ≤ c.args.most = omega arith in
+    let e = c.step.ensures in
+    let so = refused c.step.result c.if-is_err.ensures.value in
+    let why = rw so.1 at e.refusals in
+    let r = run_refused c.args.most c.loop-made.made c.is_none.result so.0 few c.loop-made.invariant (λ m. rw so.1 at (e.rules m)) why.1.0 why.1.1 (found_says c.step.new.self c.first_stale.result c.is_none.result c.is_none.ensures c.first_stale.ensures) in
+    record { rules = r.0; answer = (c.in_ok-check_fits.ensures, runs_within {l = lent c.args.marks.now c.args.values.now c.args.waiting.now} {l' = lent c.args.marks.now c.step.new.values c.step.new.waiting} c.args.most few r.1) }
 
 pub returns : goal.returns
 returns g c =
@@ -23,5 +37,5 @@ returns g c =
     let h = rw e at c.loop-made.invariant in
     record {
       rules = run_done c.args.most c.args.most c.is_none-2.result (omega arith) h (found_says c.loop-made.self c.first_stale-2.result c.is_none-2.result c.is_none-2.ensures c.first_stale-2.ensures) (λ less. absurd (omega arith));
-      answer = (rw (c.node_count.ensures, c.term_count.ensures) at (c.if-not-fits.ensures.0 tt), runs_within c.args.most (omega arith) h);
+      answer = (c.in_ok-check_fits.ensures, runs_within {l = lent c.args.marks.now c.args.values.now c.args.waiting.now} {l' = lent c.args.marks.now c.loop-made.values c.loop-made.waiting} c.args.most (omega arith) h);
     }

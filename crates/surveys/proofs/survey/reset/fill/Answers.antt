@@ -1,12 +1,14 @@
-use Rattle.std.proofs.Common.{◌≡◌, ℕ, ◌+◌, ◌-◌, ◌<◌, ◌≤◌, ◌⊎◌, List, length, get_or, take, drop, set, ap, ◌∙◌, inl, inr, ⊎_elim, arith}
+use Rattle.std.proofs.Common.{◌≡◌, ℕ, zero, suc, ◌-◌, ◌<◌, ◌≤◌, List, [], ◌∷◌, length, get_or, take, refl, ◌∙◌, arith, rules}
+use Rattle.std.specs.List.{FoldsTo}
 use borrow.Rule.Slice.PartMut.{put_mid, post_of}
-use Rattle.std.proofs.lemmas.List.{get_or-set_same, get_or-set_other, get_or_append_left, get_or-append_right, get_or-take, get_or-drop, length-take, length-drop, length-take-le}
-use Rattle.std.proofs.lemmas.Bool.{cases_eq}
+use Rattle.std.proofs.lemmas.List.{get_or_append_left, get_or-append_right, length-take, length-drop, length-take-le}
 use Rattle.surveys.proofs.survey.reset.fill.Goals as goal
 
-one_more : {A : Type 0} (xs : List A) (i : ℕ) (a : A) → i < length xs → ((p : ℕ) (d : A) → p < i → get_or xs p d ≡ a) → (p : ℕ) (d : A) → p < i + 1 → get_or (set xs i a) p d ≡ a
-one_more xs i a there before p d h =
-    ⊎_elim (λ e. ap (λ j. get_or (set xs i a) j d) e ∙ get_or-set_same xs i a d there) (λ ne. get_or-set_other xs i p a d ne ∙ before p d (omega arith)) (cases_eq p i)
+-- each call gives the value, and leaves what it read as it was
+each_given : {A P : Type 0} (R : P → A → P → Type 0) (read : P → A) (a : A) → ((p q : P) (x : A) → R p x q → (x ≡ read p) × (read q ≡ read p)) → (xs : List A) (p q : P) → read p ≡ a → FoldsTo R p xs q → (i : ℕ) (d : A) → i < length xs → get_or xs i d ≡ a
+each_given R read a call [] p q is runs i d h = absurd (omega arith)
+each_given R read a call (x ∷ xs) p q is runs zero d h = (call p runs.0 x runs.1).0 ∙ is
+each_given R read a call (x ∷ xs) p q is runs (suc i) d h = each_given R read a call xs runs.0 q ((call p runs.0 x runs.1).1 ∙ is) runs.2 i d (omega arith)
 
 -- a part written over
 module _ {A : Type 0} (xs ys : List A) (from to : ℕ) (rising : from ≤ to) (within : to ≤ length xs) (len : length ys ≡ to - from) where
@@ -16,25 +18,8 @@ module _ {A : Type 0} (xs ys : List A) (from to : ℕ) (rising : from ≤ to) (w
       ∙ get_or_append_left ys (post_of from (to - from) xs) d (p - from) (omega arith)
       ∙ all (p - from) d (omega arith)
 
-  kept : (p : ℕ) (d : A) → (p < from) ⊎ (to ≤ p) → get_or (put_mid from (to - from) xs ys) p d ≡ get_or xs p d
-  kept p d (inl low) = get_or_append_left (take from xs) _ d p (omega (arith, length-take-le from xs (omega arith))) ∙ get_or-take from xs p d low
-  kept p d (inr high) =
-      get_or-append_right (take from xs) _ from p d (length-take-le from xs (omega arith)) (omega arith)
-      ∙ get_or-append_right ys (post_of from (to - from) xs) (to - from) (p - from) d len (omega arith)
-      ∙ get_or-drop (to - from) (drop from xs) (p - from - (to - from)) d
-      ∙ get_or-drop from xs (to - from + (p - from - (to - from))) d
-      ∙ ap (λ i. get_or xs i d) (back from to p rising high)
-    where
-      back : (a b c : ℕ) → a ≤ b → b ≤ c → a + (b - a + (c - a - (b - a))) ≡ c
-      back a b c l m = omega arith
-
-pub loop-place-preserved : goal.loop-place-preserved
-loop-place-preserved g c = one_more c.loop-place.place-items c.loop-place.place-index c.args.value (omega arith) c.loop-place.invariant
-
-pub returns : goal.returns
-returns g c =
-    let len : length c.loop-place.place-items ≡ c.args.to - c.args.from = simp (length-take, length-drop) at c.loop-place.auto.place-items ∙ omega arith in
-    record {
-      inside = written c.args.places.now c.loop-place.place-items c.args.from c.args.to c.requires.rising c.requires.within len c.args.value (λ p d h. c.loop-place.invariant p d (omega (arith, simp (length-take, length-drop) at c.loop-place-test.false)));
-      outside = kept c.args.places.now c.loop-place.place-items c.args.from c.args.to c.requires.rising c.requires.within len;
-    }
+pub returns-clause-inside : goal.returns-clause-inside
+returns-clause-inside g c =
+    let len : length c.fill_with.new.self ≡ c.args.to - c.args.from = c.fill_with.ensures.len ∙ simp (length-take, length-drop) (omega arith) in
+    written c.args.places.now c.fill_with.new.self c.args.from c.args.to c.requires.rising c.requires.within len c.args.value
+    (λ p d h. each_given _ (λ s. s.0.now) c.args.value (λ s q x met. search rules) _ _ _ (refl {a = c.args.value}) c.fill_with.ensures.ran.1 p d (omega arith))

@@ -16,8 +16,7 @@ its_solution q b h s e = let f = e ∙ cond-true (ltb b (length q.blocks)) (Some
 no_solution : (q : Table) (b : ℕ) → b < length q.blocks → None ≡ cond (ltb b (length q.blocks)) (Some (solution_at q b)) None → ⊥
 no_solution q b h e =
     let f = e ∙ cond-true (ltb b (length q.blocks)) (Some (solution_at q b)) None (lt-ltb b (length q.blocks) h) in
-    let z : ◌≡◌ {A = ℕ} 0 1 = cc in
-    omega arith
+    cc
 
 pub returns-in_default : goal.returns-in_default
 returns-in_default g c =
