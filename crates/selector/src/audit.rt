@@ -1,84 +1,99 @@
 //! A small audit: a query settled over a model, with a lane re-marked in between.
-use anyhow::anyhow;
+use anyhow::Context;
 use queries::query::Query;
 use shapes::depth::DepthShape;
 use shapes::shape::Shape;
+use std::alloc::Global;
+use std::fmt;
 use surveys::call::{Answer, Call};
 use surveys::conduct::conduct;
+use surveys::queried::QueriedShape;
+use surveys::refusal::SurveyRefusal;
 use surveys::survey::retag::Mark;
 
 /// More steps than any model of this size needs.
 const ENOUGH: u32 = 1_000_000;
 
+/// What a call was answered, in words.
+#[derive(Drop)]
+struct Report<'a>(&'a Result<Answer<bool>, SurveyRefusal>);
+
+/// The nodes at which term 1 holds.
+#[derive(Drop)]
+struct Holding<'a>(&'a [bool]);
+
+impl fmt::Display for Report<'_> {
+    fn fmt<W: fmt::Write>(&self, f: &mut fmt::Formatter<W>) -> fmt::Result {
+        match self.0 {
+            Ok(Answer::Altered(true)) => write!(f, "retag: altered the mark"),
+            Ok(Answer::Altered(false)) => write!(f, "retag: the mark stood so"),
+            Ok(Answer::Stepped(all)) => write!(f, "step: all settled {all}"),
+            Ok(Answer::Ran(steps, all)) => write!(f, "run: {steps} steps, all settled {all}"),
+            Ok(Answer::Row(row)) => Holding(row).fmt(f),
+            Err(why) => {
+                let number = why.number();
+                write!(f, "refused {number}")
+            }
+        }
+    }
+}
+
+impl fmt::Display for Holding<'_> {
+    fn fmt<W: fmt::Write>(&self, f: &mut fmt::Formatter<W>) -> fmt::Result {
+        write!(f, "term 1 holds at")?;
+        for (node, holds) in self.0.iter().enumerate() {
+            if *holds {
+                write!(f, " {node}")?;
+            }
+        }
+        write!(f, ".")
+    }
+}
+
+/// A mark of tag 0.
+fn marked(node: usize, grade: bool) -> Call<bool> {
+    Call::Retag(Mark {
+        tag: 0,
+        node,
+        grade,
+    })
+}
+
 /// Marks a node, settles and reads; takes the mark back, reads too early, settles and reads again.
-pub fn print_audit(rt: &HostRuntime, shape: &DepthShape, query: &Query) -> anyhow::Result<()> {
+pub fn print_audit(
+    rt: &impl Print,
+    heap: Global,
+    shape: &DepthShape,
+    query: &Query,
+) -> anyhow::Result<()> {
     let nodes = shape.node_count();
     let node = nodes / 2;
     let entries = nodes.saturating_mul(query.term_count());
-    let mut marks = vec![in rt.alloc(); false; nodes]?;
-    let mut values = vec![in rt.alloc(); false; entries]?;
-    let mut waiting = vec![in rt.alloc(); 0u32; entries]?;
+    let mut marks = vec![in heap; false; nodes]?;
+    let mut values = vec![in heap; false; entries]?;
+    let mut waiting = vec![in heap; 0u32; entries]?;
     let calls = [
-        Call::Retag(Mark {
-            tag: 0,
-            node,
-            grade: true,
-        }),
+        marked(node, true),
         Call::Run(ENOUGH),
         Call::Read(1),
-        Call::Retag(Mark {
-            tag: 0,
-            node,
-            grade: false,
-        }),
+        marked(node, false),
         Call::Read(1),
         Call::Run(ENOUGH),
         Call::Read(1),
     ];
-    match conduct(
-        rt.alloc(),
-        shape,
-        query,
+    let answers = conduct(
+        heap,
+        &QueriedShape { shape, query },
         &mut marks,
         &mut values,
         &mut waiting,
         &calls,
-    ) {
-        Ok(answers) => print_answers(rt, &answers, node),
-        Err(_) => Err(anyhow!("the survey was refused")),
-    }
-}
-
-fn print_answers(rt: &HostRuntime, answers: &[Answer<bool>], node: usize) -> anyhow::Result<()> {
+    )
+    .context("the survey was refused")?;
     println!(rt; "node {node} is marked, and later not")?;
-    for answer in answers {
-        print_answer(rt, answer)?;
+    for answer in &answers {
+        let report = Report(answer);
+        println!(rt; "{report}")?;
     }
-    Ok(())
-}
-
-fn print_answer(rt: &HostRuntime, answer: &Answer<bool>) -> anyhow::Result<()> {
-    match answer {
-        Answer::Altered(true) => println!(rt; "retag: altered the mark")?,
-        Answer::Altered(false) => println!(rt; "retag: the mark stood so")?,
-        Answer::Stepped(all) => println!(rt; "step: all settled {all}")?,
-        Answer::Ran(steps, all) => println!(rt; "run: {steps} steps, all settled {all}")?,
-        Answer::Row(row) => return print_row(rt, row),
-        Answer::Refused(why) => {
-            let number = why.number();
-            println!(rt; "refused {number}")?;
-        }
-    }
-    Ok(())
-}
-
-fn print_row(rt: &HostRuntime, row: &[bool]) -> anyhow::Result<()> {
-    print!(rt; "term 1 holds at")?;
-    for (node, holds) in row.iter().enumerate() {
-        if *holds {
-            print!(rt; " {node}")?;
-        }
-    }
-    println!(rt; ".")?;
     Ok(())
 }

@@ -46,7 +46,7 @@ fn around<S: Shape>(shape: &S, node: usize) -> Neighbours {
 }
 
 /// One line for each node: its neighbours as listed, then those in the mirror. Answers how many.
-pub fn print_neighbours(rt: &HostRuntime, mirrored: &Mirrored<DepthShape>) -> io::Result<usize> {
+pub fn print_neighbours(rt: &impl Print, mirrored: &Mirrored<DepthShape>) -> io::Result<usize> {
     println!(rt; "        as listed                      mirrored")?;
     println!(rt; " node  first   next  owner   prev   |  first   next  owner   prev")?;
     for node in 0..mirrored.node_count() {

@@ -1,97 +1,59 @@
 //! A small query, put into words.
 use crate::audit::print_audit;
-use queries::block::Solution;
+use anyhow::Context;
 use queries::query::Query;
 use queries::refusal::QueryRefusal;
-use queries::rows::{BlockRow, TermRow};
-use queries::term::Term;
-use shapes::axis::Axis;
+use queries::rows::{BlockRow, QueryTable, TermRow};
 use shapes::depth::DepthShape;
-use std::fmt;
+use std::alloc::Global;
 
 /// Some lane from here to the right has the mark: a mark here, or the same at the next lane.
-const TERMS: [TermRow; 3] = [
-    TermRow {
-        kind: 0,
-        a: 0,
-        b: 0,
-    },
-    TermRow {
-        kind: 3,
-        a: 0,
-        b: 2,
-    },
-    TermRow {
-        kind: 5,
-        a: 1,
-        b: 0,
-    },
-];
+const SAMPLE: QueryTable<'static> = QueryTable {
+    tags: 1,
+    blocks: &[BlockRow { kind: 0, terms: 3 }],
+    terms: &[
+        TermRow {
+            kind: 0,
+            a: 0,
+            b: 0,
+        },
+        TermRow {
+            kind: 3,
+            a: 0,
+            b: 2,
+        },
+        TermRow {
+            kind: 5,
+            a: 1,
+            b: 0,
+        },
+    ],
+};
 
-const BLOCKS: [BlockRow; 1] = [BlockRow { kind: 0, terms: 3 }];
-
-/// A term in words.
-#[derive(Clone, Copy)]
-struct Words(Term);
-
-impl fmt::Display for Words {
-    fn fmt<W: fmt::Write>(&self, f: &mut fmt::Formatter<W>) -> fmt::Result {
-        match self.0 {
-            Term::Mark(tag) => write!(f, "the mark of tag {tag}"),
-            Term::Turn(a) => write!(f, "the turn of term {a}"),
-            Term::Meet(a, b) => write!(f, "the meet of terms {a} and {b}"),
-            Term::Join(a, b) => write!(f, "the join of terms {a} and {b}"),
-            Term::SomeNeighbour(axis, a) => {
-                let axis = axis_name(axis);
-                write!(
-                    f,
-                    "term {a} at the {axis} neighbour, lowest where there is none"
-                )
-            }
-            Term::EveryNeighbour(axis, a) => {
-                let axis = axis_name(axis);
-                write!(
-                    f,
-                    "term {a} at the {axis} neighbour, highest where there is none"
-                )
-            }
-            Term::Lowest => write!(f, "lowest"),
-            Term::Highest => write!(f, "highest"),
-        }
-    }
-}
-
-fn axis_name(axis: Axis) -> &'static str {
-    match axis {
-        Axis::First => "first",
-        Axis::Next => "next",
-        Axis::Owner => "owner",
-        Axis::Previous => "previous",
-    }
+/// The query of the sample.
+fn admitted(heap: Global) -> Result<Query, QueryRefusal> {
+    let mut query = Query::new(heap)?;
+    query.admit(heap, SAMPLE)?;
+    Ok(query)
 }
 
 /// Admits the sample, prints its definitions and what admission answered, and audits the model with it.
-pub fn print_sample(rt: &HostRuntime, shape: &DepthShape) -> anyhow::Result<()> {
-    let mut query = match Query::new(rt.alloc()) {
-        Ok(query) => query,
-        Err(refusal) => return print_refusal(rt, refusal),
-    };
-    match query.admit(rt.alloc(), 1, &BLOCKS, &TERMS) {
-        Ok(()) => {
+pub fn print_sample(rt: &impl Print, heap: Global, shape: &DepthShape) -> anyhow::Result<()> {
+    match admitted(heap) {
+        Ok(query) => {
             print_query(rt, &query)?;
-            print_audit(rt, shape, &query)
+            print_audit(rt, heap, shape, &query)
         }
-        Err(refusal) => print_refusal(rt, refusal),
+        Err(refusal) => {
+            let number = refusal.number();
+            println!(rt; "the query was refused {number}")?;
+            Ok(())
+        }
     }
 }
 
-fn print_refusal(rt: &HostRuntime, refusal: QueryRefusal) -> anyhow::Result<()> {
-    let number = refusal.number();
-    println!(rt; "the query was refused {number}")?;
-    Ok(())
-}
-
-fn print_query(rt: &HostRuntime, query: &Query) -> anyhow::Result<()> {
+fn print_query(rt: &impl Print, query: &Query) -> anyhow::Result<()> {
+    // A term is asked for by its number, since a query hands out no list of its terms.
     for i in 0..query.term_count() {
         print_term(rt, query, i)?;
     }
@@ -102,18 +64,10 @@ fn print_query(rt: &HostRuntime, query: &Query) -> anyhow::Result<()> {
     Ok(())
 }
 
-fn print_term(rt: &HostRuntime, query: &Query, i: usize) -> anyhow::Result<()> {
-    let Some(term) = query.term(i) else {
-        return Ok(());
-    };
-    let Some(block) = query.block_of(i) else {
-        return Ok(());
-    };
-    let solution = match query.solution(block) {
-        Some(Solution::Greatest) => "greatest",
-        _ => "least",
-    };
-    let words = Words(term);
-    println!(rt; "{solution} block {block}, term {i}: {words}")?;
+fn print_term(rt: &impl Print, query: &Query, i: usize) -> anyhow::Result<()> {
+    let term = query.term(i).context("no such term")?;
+    let block = query.block_of(i).context("no such term")?;
+    let solution = query.solution(block).context("no such block")?;
+    println!(rt; "{solution} block {block}, term {i}: {term}")?;
     Ok(())
 }
