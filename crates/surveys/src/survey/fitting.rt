@@ -1,6 +1,5 @@
 //! Whether a call comes with the counts of opening and with tables that are long enough.
-ghost use Rattle.std.specs.Prelude.{◌≡◌, ℕ, ◌*◌, ◌≤◌, List, length, nat_le, MatchResult};
-ghost use Rattle.grades.specs.Kind.{Says};
+ghost use Rattle.std.specs.Prelude.{◌≡◌, ℕ, ◌*◌, ◌≤◌, ◌↔◌, IsTrue, List, length, nat_le, MatchResult};
 ghost use Rattle.surveys.specs.Queried.{table_in};
 ghost use Rattle.surveys.specs.Reading.{ValuesFit};
 ghost use Rattle.surveys.specs.Standing.{Fits, lent};
@@ -21,26 +20,11 @@ fn has_room(len: usize, rows: usize, nodes: usize) -> bool
 impl Survey {
     /// Whether the counts are those of opening, and a value table of this size is long enough.
     pub(super) fn fits_values<S: Shape>(&self, queried: &QueriedShape<'_, S>, size: usize) -> bool
-        ensures { Says result (ValuesFit self.now (S.count queried.now.shape.now) (length (table_in queried.now).terms) size) }
+        ensures { IsTrue result ↔ ValuesFit self.now (S.count queried.now.shape.now) (length (table_in queried.now).terms) size }
     {
         let nodes = queried.shape.node_count();
         let terms = queried.query.term_count();
         self.nodes == nodes && self.terms == terms && has_room(size, terms, nodes)
-    }
-
-    /// Whether all tables are long enough too.
-    fn fits<G: Grade, S: Shape>(
-        &self,
-        queried: &QueriedShape<'_, S>,
-        marks: &[G],
-        values: &[G],
-        waiting: &[u32],
-    ) -> bool
-        ensures { Says result (Fits self.now (S.count queried.now.shape.now) (length (table_in queried.now).terms) (lent marks.now values.now waiting.now)) }
-    {
-        self.fits_values(queried, values.len())
-            && has_room(marks.len(), self.tags, self.nodes)
-            && has_room(waiting.len(), self.terms, self.nodes)
     }
 
     /// Refuses a call that comes with other counts than those of opening, or with a table that is too short.
@@ -54,7 +38,10 @@ impl Survey {
         ensures { let fits = Fits self.now (S.count queried.now.shape.now) (length (table_in queried.now).terms) (lent marks.now values.now waiting.now) in
             MatchResult result (λ _. fits) (λ why. (why ≡ SurveyRefusal.TableOrCounts) × (fits → ⊥)) }
     {
-        if self.fits(queried, marks, values, waiting) {
+        let fits = self.fits_values(queried, values.len())
+            && has_room(marks.len(), self.tags, self.nodes)
+            && has_room(waiting.len(), self.terms, self.nodes);
+        if fits {
             Ok(())
         } else {
             Err(SurveyRefusal::TableOrCounts)

@@ -1,6 +1,5 @@
 //! Marks changed while a survey stands.
-ghost use Rattle.std.specs.Prelude.{◌≡◌, ◌*◌, ◌<◌, ◌≤◌, length, MatchBool, ◌≢◌, slice_index_or, slice_set};
-ghost use Rattle.grades.specs.Kind.{Says};
+ghost use Rattle.std.specs.Prelude.{◌≡◌, ◌*◌, ◌<◌, ◌≤◌, ◌↔◌, IsTrue, length, MatchBool, ◌≢◌, slice_index_or, slice_set};
 ghost use Rattle.queries.specs.Queries.{table_of};
 ghost use Rattle.queues.specs.Within.{Within};
 ghost use Rattle.surveys.specs.Calls.Call.{retag};
@@ -60,7 +59,7 @@ fn release(
 
 impl Survey {
     fn has_mark(&self, node: usize, tag: usize) -> bool
-        ensures { Says result ((node < self.now.nodes) × (tag < self.now.tags)) }
+        ensures { IsTrue result ↔ ((node < self.now.nodes) × (tag < self.now.tags)) }
     {
         node < self.nodes && tag < self.tags
     }

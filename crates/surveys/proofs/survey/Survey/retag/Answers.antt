@@ -1,4 +1,4 @@
-use Rattle.std.proofs.Common.{◌+◌, ◌*◌, ◌<◌, ◌≤◌, length, arith, rules}
+use Rattle.std.proofs.Common.{◌+◌, ◌*◌, ◌<◌, ◌≤◌, length, arith, rules, refl}
 use Rattle.queries.specs.Table.{Reaches}
 use Rattle.queries.proofs.Questions.{rules_kept}
 use Rattle.meaning.specs.Tables.{place}
@@ -16,9 +16,10 @@ returns-then-not-has_mark g c =
     let v = c.args.self.now in
     let l = lent c.args.marks.now c.args.values.now c.args.waiting.now in
     let fits = c.in_ok-check_fits.ensures in
+    let absent : (c.args.mark.node < v.nodes) × (c.args.mark.tag < v.tags) → ⊥ = λ h. (let e = c.if-not-has_mark.ensures.1 h in cc) in
     record {
-      rules = λ m. absent_by_rules (opening k t q m) v l c.args.mark.node c.args.mark.tag c.args.mark.grade c.if-not-has_mark.ensures.1;
-      answer = ((fits, c.if-not-has_mark.ensures.1), nothing_altered v l);
+      rules = λ m. absent_by_rules (opening k t q m) v l c.args.mark.node c.args.mark.tag c.args.mark.grade absent;
+      answer = ((fits, absent), nothing_altered v l);
       values = same_within (v.terms * v.nodes) l.values;
       waiting = same_within (v.terms * v.nodes) l.waiting;
     }
@@ -27,7 +28,7 @@ pub overflow_mul-mark : goal.overflow_mul-mark
 overflow_mul-mark g c =
     let v = c.args.self.now in
     let l = lent c.args.marks.now c.args.values.now c.args.waiting.now in
-    let there = c.if-not-has_mark.ensures.0 tt in
+    let there = c.if-not-has_mark.ensures.0 refl in
     let inside : place v.nodes c.args.mark.tag c.args.mark.node < length c.args.marks.now = mark_there v l c.args.mark.node c.args.mark.tag c.in_ok-check_fits.ensures.roomy there.0 there.1 in
     let low : c.args.mark.tag * v.nodes ≤ length c.args.marks.now = omega arith in
     search rules
@@ -36,7 +37,7 @@ pub overflow_add-mark : goal.overflow_add-mark
 overflow_add-mark g c =
     let v = c.args.self.now in
     let l = lent c.args.marks.now c.args.values.now c.args.waiting.now in
-    let there = c.if-not-has_mark.ensures.0 tt in
+    let there = c.if-not-has_mark.ensures.0 refl in
     let inside : c.args.mark.tag * v.nodes + c.args.mark.node < length c.args.marks.now = mark_there v l c.args.mark.node c.args.mark.tag c.in_ok-check_fits.ensures.roomy there.0 there.1 in
     search rules
 
@@ -44,7 +45,7 @@ pub put-altered-requires : goal.put-altered-requires
 put-altered-requires g c =
     let v = c.args.self.now in
     let l = lent c.args.marks.now c.args.values.now c.args.waiting.now in
-    let there = c.if-not-has_mark.ensures.0 tt in
+    let there = c.if-not-has_mark.ensures.0 refl in
     mark_there v l c.args.mark.node c.args.mark.tag c.in_ok-check_fits.ensures.roomy there.0 there.1
 
 pub returns-then-altered : goal.returns-then-altered
@@ -57,7 +58,7 @@ returns-then-altered g c =
     let l = lent c.args.marks.now c.args.values.now c.args.waiting.now in
     let l' = lent c.put-altered.new.marks c.restart.new.values c.restart.new.waiting in
     let fits = c.in_ok-check_fits.ensures in
-    let there = c.if-not-has_mark.ensures.0 tt in
+    let there = c.if-not-has_mark.ensures.0 refl in
     record {
       rules = λ m. altered_so (opening k t q m) (rules_kept c.args.queried.now.query.now) v v' l l' c.args.mark.node c.args.mark.tag c.args.mark.grade there.0 there.1 c.if-altered.ensures.says c.put-altered.ensures.after c.restart.ensures c.put-altered.result c.if-altered.true;
       answer = remarks_altered k t q v l c.args.mark.node c.args.mark.tag c.args.mark.grade fits there.0 there.1 c.put-altered.new.marks c.put-altered.ensures.after c.if-altered.ensures.says c.put-altered.result c.if-altered.true v' c.restart.new.values c.restart.new.waiting c.restart.ensures;
@@ -73,7 +74,7 @@ returns-else-altered g c =
     let v = c.args.self.now in
     let l = lent c.args.marks.now c.args.values.now c.args.waiting.now in
     let fits = c.in_ok-check_fits.ensures in
-    let there = c.if-not-has_mark.ensures.0 tt in
+    let there = c.if-not-has_mark.ensures.0 refl in
     record {
       rules = λ m. unaltered_by_rules k t q v l c.args.mark.node c.args.mark.tag c.args.mark.grade fits there.0 there.1 c.put-altered.new.marks c.put-altered.ensures.after m c.if-altered.ensures.says c.put-altered.result c.if-altered.false;
       answer = remarks_same k t q v l c.args.mark.node c.args.mark.tag c.args.mark.grade fits there.0 there.1 c.put-altered.new.marks c.put-altered.ensures.after c.if-altered.ensures.says c.put-altered.result c.if-altered.false;
