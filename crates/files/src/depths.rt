@@ -31,7 +31,7 @@ impl<T: Drop> From<AllocFailed<T>> for TextFault {
 }
 
 impl TextFault {
-    /// The published number.
+    /// The published number: by a rule of the project one table numbers all refusals.
     pub fn number(self) -> u8
         ensures { result ≡ published self }
     {

@@ -42,7 +42,7 @@ fn number_of(digits: &[u8]) -> Option<u64>
     requires { length digits.now ≤ 10 }
     ensures { MatchOption result (all_ascii_digits digits.now ≢ true) (λ n. (all_ascii_digits digits.now ≡ true) × (n ≡ number digits.now)) }
 {
-    // A loop: the bound of `n` rests on how many digits came before, which the closure of a fold is not told.
+    // A loop: the bound of `n` rests on how many digits came before, which the closure of a fold is not told. `parse` takes a leading plus sign.
     let mut n = 0u64;
     for b in digits {
         if !b.is_ascii_digit() {

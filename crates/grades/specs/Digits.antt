@@ -1,13 +1,13 @@
 -- The binary digits of a number: what and, or and complement do to each, and that they tell the number.
-use Rattle.std.specs.Prelude.{◌≡◌, min, max, ℕ, zero, suc, ◌+◌, ◌/◌, ◌%◌, ◌^◌, ◌<◌, ◌≤◌, false, not, ◌&&◌, ◌||◌, ◌⊎◌, ◌==◌, bit_and, bit_or, count_ones, nat_eq}
-use Rattle.std.proofs.Common.{sym, ap, ◌∙◌, inl, inr, pow-suc, arith}
+use Rattle.std.specs.Prelude.{◌≡◌, ℕ, zero, suc, ◌+◌, ◌/◌, ◌%◌, ◌^◌, ◌<◌, ◌≤◌, Bool, false, not, ◌&&◌, ◌||◌, ◌⊎◌, ◌==◌, bit_and, bit_or, count_ones, nat_eq}
+use Rattle.std.proofs.Common.{sym, ap, ◌∙◌, inl, inr, pow-suc, mod-lt, arith, lit<}
 use Rattle.std.specs.Int.Bits.{and_step}
-use Rattle.std.proofs.lemmas.Nat.{and_shr}
+use Rattle.std.proofs.lemmas.Nat.{and_shr, and_mod, or_shr, or_mod}
 use Rattle.std.specs.Int.Count.{ones_step}
 use Rattle.std.proofs.lemmas.Bool.{cases_eq}
 use Rattle.std.proofs.lemmas.Bool.Decides.{nat_tests}
 use Rattle.std.specs.Int.{bit_at}
-use Rattle.std.proofs.lemmas.Nat.Bits.{bit_at-suc, bit_at_lowest, bit_at_above, bit_at_and, bit_at_or, bit_at-lt, same_from_bits_below}
+use Rattle.std.proofs.lemmas.Nat.Bits.{bit_at-suc, bit_at_lowest, bit_at_above, bit_at-lt, same_from_bits_below}
 use Rattle.grades.specs.StageSets.{digit}
 
 digit_suc : (s n : ℕ) → digit (suc s) n ≡ digit s (n / 2)
@@ -34,17 +34,21 @@ digit_past k s n h beyond = ap (λ x. nat_eq x 1) (bit_at_above n k s h beyond)
 pub digits_tell : (k m n : ℕ) → m < 2 ^ k → n < 2 ^ k → ((s : ℕ) → s < k → digit s m ≡ digit s n) → m ≡ n
 digits_tell k m n hm hn same = same_from_bits_below k m n hm hn (λ s h. told (bit_at m s) (bit_at n s) (bit_at-lt m s) (bit_at-lt n s) (same s h))
 
-least : (a b : ℕ) → a < 2 → b < 2 → (min a b == 1) ≡ (a == 1 && b == 1)
-least a b ha hb = grind (arith, nat_tests)
-
-greatest : (a b : ℕ) → a < 2 → b < 2 → (max a b == 1) ≡ (a == 1 || b == 1)
-greatest a b ha hb = grind (arith, nat_tests)
+-- an operation on numbers that works on each digit apart
+module _ (op : ℕ → ℕ → ℕ) (test : Bool → Bool → Bool)
+    (shr : (a b k : ℕ) → op a b / 2 ^ k ≡ op (a / 2 ^ k) (b / 2 ^ k))
+    (low : (a b k : ℕ) → op a b % 2 ^ k ≡ op (a % 2 ^ k) (b % 2 ^ k))
+    (one : (a b : ℕ) → a < 2 → b < 2 → (op a b == 1) ≡ test (a == 1) (b == 1)) where
+  digit_op : (s m n : ℕ) → digit s (op m n) ≡ test (digit s m) (digit s n)
+  digit_op s m n =
+      ap (λ x. nat_eq (x % 2) 1) (shr m n s) ∙ ap (λ x. nat_eq x 1) (low (m / 2 ^ s) (n / 2 ^ s) 1)
+      ∙ one (m / 2 ^ s % 2) (n / 2 ^ s % 2) (mod-lt _ (lit< tt)) (mod-lt _ (lit< tt))
 
 pub digit_and : (s m n : ℕ) → digit s (bit_and m n) ≡ (digit s m && digit s n)
-digit_and s m n = ap (λ x. nat_eq x 1) (bit_at_and m n s) ∙ least (bit_at m s) (bit_at n s) (bit_at-lt m s) (bit_at-lt n s)
+digit_and = digit_op bit_and ◌&&◌ and_shr and_mod (λ a b ha hb. grind (arith, nat_tests))
 
 pub digit_or : (s m n : ℕ) → digit s (bit_or m n) ≡ (digit s m || digit s n)
-digit_or s m n = ap (λ x. nat_eq x 1) (bit_at_or m n s) ∙ greatest (bit_at m s) (bit_at n s) (bit_at-lt m s) (bit_at-lt n s)
+digit_or = digit_op bit_or ◌||◌ or_shr or_mod (λ a b ha hb. grind (arith, nat_tests))
 
 -- two numbers that fill k digits up between them have no digit alike there
 pub digit_turned : (k s m n : ℕ) → suc (m + n) ≡ 2 ^ k → s < k → digit s n ≡ not (digit s m)

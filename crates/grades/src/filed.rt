@@ -8,7 +8,7 @@ use crate::grade::Grade;
 use crate::stage_set::StageSet;
 
 /// A kind whose grades have numbers of 32 bits, read back exactly.
-// Not `TryFrom` and `Into`: yes/no is `bool`, and only std may write those between `bool` and `u32`.
+// A trait of its own, and not `TryFrom<u32>`: yes/no is `bool`, for which only std may write that.
 pub trait FiledGrade: Grade {
     ghost number: { Self → ℕ };
 

@@ -43,7 +43,7 @@ pub trait Grade: Copy {
         ensures { result ≡ kind.highest };
 
     /// Whether the two are equal.
-    // Not `==` of a bound, which promises what the type's `eq` answers and not that the two are one grade.
+    // Not `==` of a bound: a `PartialEq` bound would ask more of each kind, and promises what its `eq` answers, not that the two are one grade.
     fn same(self, other: Self) -> bool
         ensures { Says result (self ≡ other) };
 

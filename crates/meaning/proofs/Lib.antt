@@ -2,6 +2,7 @@ pub mod Admitted
 pub mod Agreement
 pub mod Better
 pub mod Blocks
+pub mod Changes
 pub mod Fitting
 pub mod Monotone
 pub mod Reached

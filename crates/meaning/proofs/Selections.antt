@@ -1,7 +1,7 @@
 -- For yes and no, the blockwise solution is what the blocks of formulas select.
-use Rattle.std.proofs.Common.{◌≡◌, ℕ, zero, suc, ◌<◌, ◌≤◌, Bool, T, length, sym, refl, ◌∙◌, subst, le_refl, arith, rules}
-use Rattle.grades.specs.Kind.{Laws as KindLaws}
-use Rattle.grades.specs.YesNo.{yes_no}
+use Rattle.std.proofs.Common.{◌≡◌, ℕ, zero, suc, ◌<◌, ◌≤◌, Bool, T, length, sym, refl, ◌∙◌, subst, le_refl, arith}
+use Rattle.grades.specs.YesNo.{yes_no, yes_no_laws}
+use Rattle.grades.proofs.YesNo.{implied}
 use Rattle.shapes.specs.Tree.{Tree, Iff, Laws as TreeLaws}
 use Rattle.queries.specs.declared.block.Solution.{Solution}
 use Rattle.queries.specs.declared.block.Solution.TheVariants.{Least, Greatest}
@@ -12,11 +12,8 @@ use Rattle.meaning.specs.Theorems.{nodes_of, Selects, OneSelection}
 use Rattle.meaning.proofs.Admitted.{block_stands}
 use Rattle.meaning.proofs.Blocks.{best_carries, blockwise_stands}
 use Rattle.meaning.proofs.Monotone.{Lawful}
-use Rattle.meaning.proofs.Sets.{same_test, implied, grades_of, nodes_back, grade_holds}
+use Rattle.meaning.proofs.Sets.{same_test, grades_of, nodes_back, grade_holds}
 use Rattle.meaning.proofs.Sums.{below_suc}
-
-pub yes_no_laws : KindLaws yes_no
-yes_no_laws = search rules
 
 module _ {t : Tree} (nodes : TreeLaws t) (q : Table) (labels : Grades Bool) (b : ℕ) where
   entry : {c i : ℕ} → DefinedIn q c i → (z : Node t) → Entry q t c i z.number

@@ -4,7 +4,6 @@ use mathlib.Core.Path.{fun_ext}
 use native.Mathlib.Bridge.{le_prop}
 use native.Mathlib.Decide.{dec_lt}
 use lib.Dec.{not_T}
-use Rattle.grades.specs.Kind.{Below}
 use Rattle.grades.specs.YesNo.{yes_no}
 use Rattle.shapes.specs.Tree.{Tree, Iff, along, Laws as TreeLaws}
 use Rattle.queries.specs.declared.term.Term.{Term}
@@ -15,10 +14,6 @@ use Rattle.meaning.specs.Theorems.{nodes_of}
 
 pub same_test : (a b : Bool) → (T a → T b) → (T b → T a) → a ≡ b
 same_test a b f g = search rules
-
--- the order of yes and no is implication
-pub implied : (a b : Bool) → Below yes_no a b → T a → T b
-implied a b h = search rules
 
 and_parts : (a b : Bool) → Iff (T (a && b)) (T a × T b)
 and_parts a b = search rules

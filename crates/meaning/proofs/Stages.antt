@@ -2,7 +2,7 @@
 use Rattle.std.proofs.Common.{ℕ, ◌<◌}
 use Rattle.grades.specs.declared.stage_set.StageSet.{StageSet}
 use Rattle.grades.specs.StageSets.{bit, stage_sets}
-use Rattle.grades.specs.YesNo.{yes_no}
+use Rattle.grades.specs.YesNo.{yes_no, yes_no_laws}
 use Rattle.grades.specs.Stages.{stage_set_laws, kept_by_stage, equal_by_stage}
 use Rattle.shapes.specs.Tree.{Tree, Laws as TreeLaws}
 use Rattle.queries.specs.Table.{Table, Admitted}
@@ -10,7 +10,7 @@ use Rattle.meaning.specs.Solutions.{Grades, Blockwise}
 use Rattle.meaning.specs.Theorems.{stage, SolvedByStage, SelectedByStage}
 use Rattle.meaning.proofs.Blocks.{best_carries, blockwise_stands, blockwise_unique}
 use Rattle.meaning.proofs.Monotone.{Lawful}
-use Rattle.meaning.proofs.Selections.{yes_no_laws, blockwise_selected, selected_blockwise}
+use Rattle.meaning.proofs.Selections.{blockwise_selected, selected_blockwise}
 use Rattle.meaning.proofs.Transfer.{blockwise_mapped}
 
 module _ (t : Tree) (q : Table) (nodes : TreeLaws t) (admitted : Admitted q) (marks : Grades StageSet) where

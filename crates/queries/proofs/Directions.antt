@@ -1,10 +1,10 @@
 -- Which tables are admitted, and the rules on directions.
-use Rattle.std.proofs.Common.{◌≡◌, ℕ, ◌<◌, ◌≤◌, length, get_or, unwrap_or, sym, ap, ◌∙◌, subst, arith}
+use Rattle.std.proofs.Common.{◌≡◌, ℕ, ◌<◌, ◌≤◌, length, get_or, sym, ap, ◌∙◌, subst, arith}
 use Rattle.std.proofs.lemmas.List.{length-map, get_or-map}
-use Rattle.queries.specs.declared.term.Term.TheVariants.{Lowest}
 use Rattle.queries.specs.Admission.{Admissible, Fits}
-use Rattle.queries.specs.Rows.{Rows, no_row, block_in, term_in, told}
+use Rattle.queries.specs.Rows.{Rows, no_row, block_in, told}
 use Rattle.queries.specs.Table.{Table, Admitted, Directed, solution_at, blocks_terms, no_block}
+use Rattle.queries.proofs.Rules.{as_many}
 
 -- a direction goes by the block, and a turn reads an earlier block, so an admitted query is directed
 pub directed : {q : Table} → Admitted q → Directed q
@@ -18,10 +18,10 @@ pub told_admitted_lem : (r : Rows) → Admissible r → Admitted (told r)
 told_admitted_lem r ok = record {
   sized = record {
     few_tags = ok.framed.sizes.few_tags;
-    some_term = rw as_many ok.framed.sizes.some_term;
-    few_terms = rw as_many ok.framed.sizes.few_terms;
+    some_term = rw (as_many r) ok.framed.sizes.some_term;
+    few_terms = rw (as_many r) ok.framed.sizes.few_terms;
     no_empty_block = full;
-    all_dealt = ok.framed.sum ∙ sym as_many;
+    all_dealt = ok.framed.sum ∙ sym (as_many r);
   };
   tag_stands = λ i h. (fits i h).stands.tag;
   operands_stand = λ i h. (fits i h).stands.operands;
@@ -29,11 +29,8 @@ told_admitted_lem r ok = record {
   turn_earlier = λ i h. (fits i h).turn_earlier;
 }
   where
-    as_many : length (told r).terms ≡ length r.terms
-    as_many = length-map r.terms (λ row. unwrap_or (term_in row) Lowest)
-
     fits : (i : ℕ) → i < length (told r).terms → Fits r i
-    fits i h = ok.terms i (subst (λ n. i < n) as_many h)
+    fits i h = ok.terms i (subst (λ n. i < n) (as_many r) h)
 
     full : (b : ℕ) → b < length (told r).blocks → 1 ≤ blocks_terms (told r) b
     full b h =

@@ -17,6 +17,10 @@ use Rattle.queries.proofs.Tested.{StandsAlone, ReadsUpTo, standing_decided, read
 abbrev pub none : TermRow
 none = record { kind = 0; a = 0; b = 0 }
 
+-- a table tells a term for each row
+pub as_many : (r : Rows) → length (told r).terms ≡ length r.terms
+as_many r = length-map r.terms (λ row. unwrap_or (term_in row) Lowest)
+
 module _ (r : Rows) (i : ℕ) (here : i < length r.terms) where
   module _ (t : Term) (is : term_in (get_or r.terms i none) ≡ Some t) where
     told_term : term_at (told r) i ≡ t
@@ -25,14 +29,11 @@ module _ (r : Rows) (i : ℕ) (here : i < length r.terms) where
     known : is_some (term_in (get_or r.terms i (record { kind = 12; a = 0; b = 0 }))) ≡ true
     known = ap (λ row. is_some (term_in row)) (get_or_default r.terms i _ none here) ∙ ap is_some is
 
-    as_many : length (told r).terms ≡ length r.terms
-    as_many = length-map r.terms (λ row. unwrap_or (term_in row) Lowest)
-
     pub stands_there : true ≡ standing r.tags (length r.terms) t → Stands r i
     stands_there told_so = record {
       known = known;
       tag = λ a e. s.tag a (sym told_term ∙ e);
-      operands = λ j reads. rw as_many (s.operands j (subst (λ u. Reads u j) told_term reads));
+      operands = λ j reads. rw (as_many r) (s.operands j (subst (λ u. Reads u j) told_term reads));
     }
       where
         s : StandsAlone r.tags (length r.terms) t
@@ -41,7 +42,7 @@ module _ (r : Rows) (i : ℕ) (here : i < length r.terms) where
     stands_here : Stands r i → StandsAlone r.tags (length r.terms) t
     stands_here s = record {
       tag = λ a e. s.tag a (told_term ∙ e);
-      operands = λ j reads. subst (λ n. j < n) as_many (s.operands j (subst (λ u. Reads u j) (sym told_term) reads));
+      operands = λ j reads. subst (λ n. j < n) (as_many r) (s.operands j (subst (λ u. Reads u j) (sym told_term) reads));
     }
 
     pub stands_not : false ≡ standing r.tags (length r.terms) t → Stands r i → ⊥

@@ -94,6 +94,7 @@ impl QueryTable<'_> {
     fn check_terms(self) -> Result<(), QueryRefusal>
         ensures { let r = rows_of self.entry in MatchResult result (λ _. (i : ℕ) → i < length r.terms → Fits r i) (λ e. FirstFaulty r e) }
     {
+        // A loop: with `try_for_each` the proof that the first faulty term is named stays open.
         for i in 0..self.terms.len() {
             self.check_term(i)?;
         }

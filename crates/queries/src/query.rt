@@ -12,6 +12,7 @@ mod questions;
 use crate::query::entries::{BlockEntry, TermEntry};
 
 /// A query that keeps every rule of admission; all but its tags, blocks and terms is worked out from these.
+// No `impl Model`: a table is no list, set or number, and clauses read as plainly by `table_of`.
 #[derive(Drop)]
 pub struct Query {
     tags: usize,

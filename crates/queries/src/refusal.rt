@@ -32,6 +32,7 @@ pub enum QueryRefusal {
     NoMemory,
 }
 
+// By hand, since the derive's conversion promises nothing of the refusal.
 impl From<AllocError> for QueryRefusal {
     ghost from_gives = { λ _ e. e ≡ NoMemory };
 
@@ -41,7 +42,7 @@ impl From<AllocError> for QueryRefusal {
 }
 
 impl QueryRefusal {
-    /// The published number.
+    /// The published number: by a rule of the project one table numbers all refusals.
     pub fn number(self) -> u8
         ensures { result ≡ published self }
     {

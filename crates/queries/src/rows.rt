@@ -47,6 +47,7 @@ impl BlockRow {
 }
 
 /// A row that stands for no block.
+// Two types of fault, since one would let each conversion answer the other's.
 #[derive(Clone, Copy, PartialEq, Eq, Debug, Error)]
 #[error("the block is empty, or of an unknown kind")]
 pub struct BadBlockRow;

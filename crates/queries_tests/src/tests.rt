@@ -13,6 +13,7 @@ struct Case {
     tags: u32,
     blocks: &'static [(u32, u32)],
     terms: &'static [(u32, u32, u32)],
+    // A refusal is told by its published number, since that is what the documents state.
     /// The number of the refusal, and the block or the term that it names; none where the table is admitted.
     refused: Option<(u8, Option<usize>)>,
 }

@@ -16,7 +16,8 @@ written n w e p = cond (nat_lt e n) (slice_set w e p) w
 abbrev pub between : ℕ → ℕ → Option Ends
 between h t = Some (record { head = h; tail = t })
 
--- take, put, clear: the queue keeps its size, and the table its length and its places from that size on
+-- take, put, clear: the queue keeps its size, and the table its length and its places from that size on.
+-- Said at each call, since the table is lent and no type can hold it.
 pub record StaysWithin (q : Queue) (w : List ℕ) (q' : Queue) (w' : List ℕ) : Type 0 where
   pub size : q'.size ≡ q.size
   pub table : Within q.size w w'

@@ -1,8 +1,9 @@
 -- The word of a node, spelled from its last letter on the way back to the root.
-use Rattle.std.proofs.Common.{◌≡◌, ℕ, ◌+◌, ◌-◌, ◌<◌, ◌≤◌, List, [], ◌∷◌, ◌++◌, Some, sym, refl, ap, ◌∙◌, append_assoc, arith}
+use Rattle.std.proofs.Common.{◌≡◌, ℕ, ◌+◌, ◌-◌, ◌<◌, ◌≤◌, List, [], ◌∷◌, ◌++◌, length, Some, None, sym, refl, ap, ◌∙◌, append_assoc, append-nil, arith}
+use Rattle.std.proofs.lemmas.List.{length-append, length-reverse}
 use Rattle.shapes.specs.declared.axis.Axis.TheVariants.{Owner, Previous}
 use Rattle.shapes.specs.Tree.{Tree, Laws}
-use Rattle.shapes.specs.Addresses.{raised, letters}
+use Rattle.shapes.specs.Addresses.{raised, letters, address_of}
 use Rattle.shapes.proofs.Letters.{lettered}
 use Rattle.shapes.specs.Trees.{starts_inside, level_below}
 
@@ -53,6 +54,13 @@ module _ (t : Tree) (l : Laws t) (node : ℕ) where
       spells = append_assoc word (k ∷ []) _ ∙ ap (λ (u : List ℕ). word ++ k ∷ u) (from_one (letters t t.count y)) ∙ owner_spells y e;
       bounded = λ h. omega (arith, level_below t l y h);
     }
+
+    pub at_end : t.previous x ≡ None → t.owner x ≡ None → word ≡ letters t t.count node
+    at_end p o = sym (append-nil word) ∙ sym (ap (λ (u : List ℕ). word ++ counted_from k u) ((lettered t l).none x p o)) ∙ s.spells
+
+    -- what has an owner has a letter
+    pub not_empty : (y : ℕ) → t.owner x ≡ Some y → 1 ≤ length (address_of t node)
+    not_empty y e = simp length-reverse (omega (arith, simp length-append at (ap length (owner_spells y e))))
 
     pub fits : (y : ℕ) → t.previous x ≡ Some y → k ≤ 2048
     fits y e = omega (arith, s.bounded (starts_inside t l Previous x y e), l.countable)

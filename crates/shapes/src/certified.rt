@@ -10,6 +10,7 @@ use crate::links::Links;
 use crate::table::led_to;
 
 /// A table of links, with a level for each node.
+// Two slices side by side, since the rows are the caller's.
 #[derive(Clone, Copy)]
 pub(crate) struct Leveled<'a> {
     pub(crate) rows: &'a [Links],
@@ -44,10 +45,9 @@ impl Leveled<'_> {
     fn all_answered(&self, node: usize) -> bool
         ensures { result ≡ all_answered_lem (linked_tree self.now.rows.now) node }
     {
-        self.answered(Axis::First, node)
-            && self.answered(Axis::Next, node)
-            && self.answered(Axis::Owner, node)
-            && self.answered(Axis::Previous, node)
+        [Axis::First, Axis::Next, Axis::Owner, Axis::Previous]
+            .into_iter()
+            .all(|axis| self.answered(axis, node))
     }
 
     /// Whether the level grows by 1 where a link along an axis leads.

@@ -2,7 +2,8 @@
 ghost use Rattle.std.specs.Prelude.{Decides};
 ghost use Rattle.shapes.specs.Tree.{Countable};
 
-const MOST_NODES: usize = 2048;
+/// The most nodes that a shape may have.
+pub(crate) const MOST_NODES: usize = 2048;
 
 pub(crate) fn is_countable(nodes: usize) -> bool
     ensures { Decides result (Countable nodes) }

@@ -4,6 +4,7 @@ ghost use Rattle.shapes.specs.Levels.{reached, untouched, reach, visit, levels_o
 ghost use Rattle.shapes.specs.Links.{linked_tree};
 
 use crate::axis::Axis;
+use crate::count::MOST_NODES;
 use crate::links::Links;
 use crate::table::led_to;
 use std::alloc::{AllocError, Global};
@@ -41,7 +42,7 @@ impl Search {
 
     /// Reaches what a node leads to, a level below it.
     fn visit(&mut self, rows: &[Links], node: usize, level: u16) -> Result<(), AllocError>
-        requires { level < 2048 }
+        requires { level < MOST_NODES }
         ensures { OnOk result (reached self.new ≡ visit (linked_tree rows.now) node level (reached self.old)) }
     {
         self.reach(level + 1, led_to(rows, Axis::First, node))?;
@@ -51,7 +52,7 @@ impl Search {
 
 /// The level of each node of a table; those that no way from the root leads to have none.
 pub(crate) fn levels_of(heap: Global, rows: &[Links]) -> Result<Vec<Option<u16>>, AllocError>
-    requires { length rows.now ≤ 2048 }
+    requires { length rows.now ≤ MOST_NODES }
     ensures { IfOk result (λ v. v.items ≡ levels_of_lem (linked_tree rows.now)) }
 {
     let mut search = Search::new(heap, rows.len())?;

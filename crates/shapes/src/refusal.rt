@@ -37,6 +37,7 @@ impl ShapeRefusal {
     }
 }
 
+// By hand, since the derive's conversion promises nothing of the refusal.
 impl From<AllocError> for ShapeRefusal {
     ghost from_gives = { λ _ refusal. refusal ≡ NoMemory };
 

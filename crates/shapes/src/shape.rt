@@ -8,6 +8,7 @@ use crate::axis::Axis;
 ///
 /// The ghost members are what the shape means: its count and four partial maps.
 /// Every question answers for every number, with none at the count and past it.
+// The count and four maps apart, and not one tree, by a rule of the project.
 pub trait Shape {
     ghost count: { Self → ℕ };
 

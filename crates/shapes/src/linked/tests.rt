@@ -30,6 +30,7 @@ fn junction(heap: Global) -> Result<LinkedShape, Fail> {
 }
 
 // That a junction refuses the table under the number, and stays as it was.
+// A refusal is told by its published number, since that is what the documents state.
 fn refused(heap: Global, rows: &[Links], number: u8) -> Result<(), Fail> {
     let mut shape = junction(heap)?;
     match shape.fill(heap, rows) {

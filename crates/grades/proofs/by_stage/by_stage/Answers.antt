@@ -1,19 +1,10 @@
-use Rattle.std.specs.Prelude.{Bool, T}
-use Rattle.std.proofs.Common.{rules}
 use Rattle.grades.specs.ByStage.{BelowByStage}
-use Rattle.grades.specs.Kind.{Below}
 use Rattle.grades.specs.StageSets.{bit}
-use Rattle.grades.specs.YesNo.{yes_no}
 use Rattle.grades.specs.Stages.{kept_by_stage, equal_by_stage, at_stage, from_stages}
+use Rattle.grades.proofs.YesNo.{implied, implies}
 use Rattle.grades.proofs.by_stage.by_stage.Goals as goal
 
 -- at each stage, to lie below is to imply
-implied : (a b : Bool) → Below yes_no a b → T a → T b
-implied a b h = search rules
-
-implies : (a b : Bool) → (T a → T b) → Below yes_no a b
-implies a b h = search rules
-
 below_by_stage : BelowByStage
 below_by_stage x y = (
   λ h s _. implied (bit s x) (bit s y) (at_stage x y h s),
