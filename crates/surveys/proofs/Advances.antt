@@ -31,6 +31,7 @@ use Rattle.surveys.proofs.Engine.{TakenUp, given_is, room_values}
 use Rattle.surveys.proofs.Placed.{place_apart, place_inside}
 use Rattle.surveys.proofs.Numbering.{entry_of_number}
 use Rattle.surveys.proofs.Queueing.{readers_inside, queued_listed}
+use Rattle.surveys.proofs.Runs.{true_of}
 
 -- what the code leaves, after it has worked off the entry h
 pub record WorkedOff {G : Type 0} (k : Kind G) (t : Tree) (q : Table) (v : Survey) (w : Work) (l : Lent G) (h : HeadEntry) (grade : G) (v' : Survey) (queue : Queue) (values : List G) (waiting : List ℕ) (all : Bool) : Type 0 where
@@ -73,10 +74,6 @@ few_blocks (b ∷ bs) h = omega (arith, h 0 (omega arith), few_blocks bs (λ c l
 
 true_T : (x : Bool) → x ≡ true → T x
 true_T x e = subst T (sym e) tt
-
-T_true : (x : Bool) → T x → x ≡ true
-T_true true h = refl
-T_true false h = absurd h
 
 map_none : (f : ℕ → Place) (l : List ℕ) → map f l ≡ [] → l ≡ []
 map_none f [] e = refl
@@ -202,7 +199,7 @@ module _ {G : Type 0} (o : Opening G) (a : Admitted o.query) (laws : TreeLaws o.
       next,
       (
         steps all next (stepped_so settled None (λ _. (refl, λ c. refl)) (λ some. absurd (some (ap (map (place_in o b)) none))))
-            (λ h c less. true_T (settled c) (sym (flags_stand c less) ∙ says.0 h c (omega (arith, same_blocks))), λ h. says.1 (λ c less. let below : c < length o.query.blocks = omega (arith, same_blocks) in flags_stand c below ∙ T_true (settled c) (h c below))),
+            (λ h c less. true_T (settled c) (sym (flags_stand c less) ∙ says.0 h c (omega (arith, same_blocks))), λ h. says.1 (λ c less. let below : c < length o.query.blocks = omega (arith, same_blocks) in flags_stand c below ∙ true_of (settled c) (h c below))),
         subst (λ v. Stands o next v (lent l.marks values waiting)) (sym v_is) settled_stands,
       ),
     )

@@ -15,7 +15,7 @@ use Rattle.meaning.specs.Readings.{Reading}
 use Rattle.meaning.specs.Readings.Reading.{turned, met_left, met_right, joined_left, joined_right, some_there, every_there}
 use Rattle.meaning.proofs.Readings.{reading_reads}
 use Rattle.queues.specs.Threads.{In as Waits}
-use Rattle.queues.proofs.Entries.{in_or_out}
+use Rattle.queues.proofs.Entries.{in_or_out, in_append, append_in}
 use Rattle.surveys.specs.Places.{Place, In, Lists}
 use Rattle.surveys.specs.Rules.{Opening, EntryOf, Queued}
 use Rattle.surveys.specs.Standing.{place_in}
@@ -25,18 +25,6 @@ use Rattle.surveys.proofs.Numbering.{Rises, place_waits, waits_place, place_wait
 use Rattle.surveys.proofs.Spanning.{span_has}
 use Rattle.surveys.proofs.Wakes.{added_waits, added_new, reader_inside}
 
--- membership
-push_left : (e x : ℕ) (l : List ℕ) → Waits e l → Waits e (l ++ (x ∷ []))
-push_left e x [] h = absurd h
-push_left e x (y ∷ l) (inl same) = inl same
-push_left e x (y ∷ l) (inr h) = inr (push_left e x l h)
-
-in_push : (e x : ℕ) (l : List ℕ) → Waits e (l ++ (x ∷ [])) → Waits e l ⊎ (x ≡ e)
-in_push e x [] (inl same) = inr same
-in_push e x [] (inr h) = absurd h
-in_push e x (y ∷ l) (inl same) = inl (inl same)
-in_push e x (y ∷ l) (inr h) = elim (in_push e x l h) [ inl i ↦ inl (inr i) | inr same ↦ inr same ]
-
 -- what is added: the entries that are not there yet, in their order
 pub added_in : (e : ℕ) (es l : List ℕ) → Waits e (added_by l es) → Waits e es × (Waits e l → ⊥)
 added_in e [] l h = absurd h
@@ -44,7 +32,7 @@ added_in e (x ∷ es) l h = elim (in_or_out x l) [
   | inl there ↦ let r = added_in e es l (subst (Waits e) (added_waits l x es there) h) in (inr r.0, r.1)
   | inr new ↦ elim (subst (Waits e) (added_new l x es new) h) [
     | inl same ↦ (inl same, λ i. new (subst (λ k. Waits k l) (sym same) i))
-    | inr later ↦ let r = added_in e es (l ++ (x ∷ [])) later in (inr r.0, λ i. r.1 (push_left e x l i))
+    | inr later ↦ let r = added_in e es (l ++ (x ∷ [])) later in (inr r.0, λ i. r.1 (append_in e l (x ∷ []) (inl i)))
   ]
 ]
 
@@ -56,7 +44,7 @@ in_added e (x ∷ es) l h out = elim (in_or_out x l) [
     | inl same ↦ inl same
     | inr other ↦ elim h [
       | inl same ↦ inl same
-      | inr i ↦ inr (in_added e es (l ++ (x ∷ [])) i (λ w. elim (in_push e x l w) [ inl k ↦ out k | inr same ↦ other same ]))
+      | inr i ↦ inr (in_added e es (l ++ (x ∷ [])) i (λ w. elim (in_append e l (x ∷ []) w) [ inl k ↦ out k | inr last ↦ elim last [ inl same ↦ other same | inr none ↦ none ] ]))
     ]
   ])
 ]

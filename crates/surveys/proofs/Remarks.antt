@@ -212,9 +212,6 @@ reset_within k q v e P before after resets = rw e (resets_within k q v.nodes P b
 pub nothing_altered : {G : Type 0} (v : Survey) (l : Lent G) → (v ≡ v) × (l ≡ l)
 nothing_altered v l = (refl, refl)
 
-pub same_within : {A : Type 0} (n : ℕ) (table : List A) → Within n table table
-same_within n table = record { same_length = refl; beyond = λ p d h. refl }
-
 -- a mark of the survey has its place in the table
 pub mark_there : {G : Type 0} (v : Survey) (l : Lent G) (node tag : ℕ) → Roomy v l → node < v.nodes → tag < v.tags → place v.nodes tag node < length l.marks
 mark_there v l node tag roomy hn ha = omega (arith, place_inside v.nodes v.tags tag node ha hn, roomy.marks)

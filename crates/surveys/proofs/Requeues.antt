@@ -1,11 +1,10 @@
 -- What becomes of the list of those that wait when an entry takes its grade.
-use Rattle.std.proofs.Common.{◌≡◌, ℕ, ◌+◌, ◌*◌, ◌<◌, ◌≤◌, Bool, true, false, not, List, [], ◌++◌, length, get_or, set, is_some, Some, None, Option, sym, refl, ap, ◌∙◌, subst, arith, MatchOption}
-use Rattle.std.proofs.lemmas.List.{append-nil, get_or_read, set-get_or, set_past}
-use Rattle.grades.specs.Kind.{Kind, Says}
+use Rattle.std.proofs.Common.{◌≡◌, ℕ, ◌≤◌, Bool, true, false, not, List, [], ◌++◌, length, is_some, Some, None, Option, sym, refl, ap, subst, MatchOption}
+use Rattle.std.proofs.lemmas.List.{append-nil, set_past}
+use Rattle.grades.specs.Kind.{Says}
 use Rattle.shapes.specs.Tree.{Tree}
 use Rattle.queries.specs.Queries.{ListsReaders}
 use Rattle.queries.specs.Table.{Table}
-use Rattle.meaning.specs.Tables.{place, grades_in}
 use Rattle.queues.specs.declared.queue.Queue.{Queue}
 use Rattle.queues.specs.Threads.{Threads}
 use Rattle.surveys.specs.declared.survey.Survey.{Survey}
@@ -21,15 +20,6 @@ module _ {G : Type 0} (t : Tree) (q : Table) (h : HeadEntry) (old new : G) (rest
 
   pub requeued_some : (new ≡ old → ⊥) → (readers : List ℕ) → ListsReaders q h.term readers → Threads waiting queue (rest ++ added_by rest (woken t q h.first h.node readers)) → Requeued t q h old new rest waiting queue
   requeued_some other readers lists threads = record { added = added_by rest (woken t q h.first h.node readers); threads = threads; unchanged = λ same. absurd (other same); changed = λ _. (readers, (lists, refl)) }
-
--- what a table has at an entry, as it was read there
-pub read_grade : {G : Type 0} (k : Kind G) (values : List G) (n m term node : ℕ) (x : G) → n ≡ m → place m term node < length values → x ≡ get_or values (term * n + node) x → x ≡ grades_in k m values term node
-read_grade k values n m term node x same inside is =
-    let at : term * n + node ≡ place m term node = ap (λ n. term * n + node) same in
-    get_or_read values (term * n + node) x (omega arith) is k.lowest ∙ ap (λ p. get_or values p k.lowest) at
-
-pub kept_value : {G : Type 0} (k : Kind G) (values : List G) (n term node : ℕ) (x : G) → x ≡ grades_in k n values term node → values ≡ set values (place n term node) x
-kept_value k values n term node x is = sym (set-get_or values (place n term node) k.lowest) ∙ ap (set values (place n term node)) (sym is)
 
 -- a flag past the others is not written
 pub closed_past : (v : Survey) (b : ℕ) → length v.settled ≤ b → record { nodes = v.nodes; tags = v.tags; terms = v.terms; blocks = v.blocks; settled = v.settled; current = None } ≡ closed v b

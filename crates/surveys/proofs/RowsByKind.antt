@@ -3,7 +3,7 @@ use Rattle.std.proofs.Common.{◌≡◌, ℕ, ◌<◌, Bool, length, sym, refl, 
 use Rattle.grades.specs.declared.stage_set.StageSet.{StageSet}
 use Rattle.grades.specs.Kind.{Kind, Laws as KindLaws}
 use Rattle.grades.specs.StageSets.{bit, stage_sets}
-use Rattle.grades.specs.YesNo.{yes_no}
+use Rattle.grades.specs.YesNo.{yes_no, yes_no_laws}
 use Rattle.grades.specs.Stages.{stage_set_laws}
 use Rattle.shapes.specs.Tree.{Tree, Laws as TreeLaws}
 use Rattle.queries.specs.Table.{Table, Admitted, block_of}
@@ -12,7 +12,7 @@ use Rattle.meaning.specs.Solutions.{Grades, Blockwise}
 use Rattle.meaning.specs.Theorems.{nodes_of, stage}
 use Rattle.meaning.proofs.Blocks.{blockwise_stands, blockwise_unique}
 use Rattle.meaning.proofs.Monotone.{Lawful}
-use Rattle.meaning.proofs.Selections.{yes_no_laws, selects, one_selection}
+use Rattle.meaning.proofs.Selections.{selects, one_selection}
 use Rattle.meaning.proofs.Stages.{solved_by_stage}
 use Rattle.surveys.specs.Promise.{opening}
 use Rattle.surveys.specs.Readings.{WhereSettled, SelectsSettled, SolvesByStage, SelectsByStage, ReadsByStage}

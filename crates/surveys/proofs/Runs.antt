@@ -71,7 +71,7 @@ module _ {G : Type 0} {k : Kind G} {t : Tree} {q : Table} {v : Survey} {l : Lent
     waiting = waits ∙ h.waiting;
   }
 
-true_of : (b : Bool) → T b → b ≡ true
+pub true_of : (b : Bool) → T b → b ≡ true
 true_of true h = refl
 true_of false h = absurd h
 

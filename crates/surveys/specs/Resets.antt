@@ -8,7 +8,7 @@ use Rattle.queues.specs.Within.{Within}
 use Rattle.surveys.specs.declared.survey.Survey.{Survey}
 use Rattle.surveys.specs.declared.survey.Work.{Work}
 
--- the table has a place for each term at each of n nodes
+-- the table has a place for each term at each of n nodes; functions require it, since the table is lent, so that no type can hold it
 abbrev pub HasRows : {A : Type 0} → Table → ℕ → List A → Type 0
 HasRows q n table = length q.terms * n ≤ length table
 
@@ -24,6 +24,10 @@ pub record Unsettles (q : Table) (tag n : ℕ) (before after : List Bool) : Type
   pub reached : (b : ℕ) → b < n → Reaches q tag b → slice_index_or after b false ≡ false
   pub unreached : (b : ℕ) → (Reaches q tag b → ⊥) → slice_index_or after b false ≡ slice_index_or before b false
   pub beyond : (b : ℕ) → n ≤ b → slice_index_or after b false ≡ slice_index_or before b false
+
+-- the survey with these flags
+abbrev pub with_flags : Survey → List Bool → Survey
+with_flags v flags = record { nodes = v.nodes; tags = v.tags; terms = v.terms; blocks = v.blocks; settled = flags; current = v.current }
 
 -- of the first n places those below the size are 0, and every other place is as it was
 pub record Clears (size n : ℕ) (before after : List ℕ) : Type 0 where

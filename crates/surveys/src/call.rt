@@ -32,6 +32,7 @@ pub enum Answer<G> {
 }
 
 /// Why a call has no answer to keep.
+// A `Result` in a `Result` would be no plainer: `?` passes one of the two only.
 #[derive(Clone, Copy, PartialEq, Eq, Debug)]
 pub(crate) enum CallFailure {
     Refused(SurveyRefusal),
@@ -39,19 +40,21 @@ pub(crate) enum CallFailure {
     NoMemory,
 }
 
+// By hand, since the derive's conversion promises nothing of the failure.
 impl From<SurveyRefusal> for CallFailure {
     ghost from_gives = { λ why failure. failure ≡ CallRefused why };
 
-    fn from(why: SurveyRefusal) -> Self {
-        Self::Refused(why)
+    fn from(why: SurveyRefusal) -> CallFailure {
+        CallFailure::Refused(why)
     }
 }
 
+// By hand, since the derive's conversion promises nothing of the failure.
 impl From<AllocError> for CallFailure {
     ghost from_gives = { λ _ failure. failure ≡ RowNotCopied };
 
-    fn from(_e: AllocError) -> Self {
-        Self::NoMemory
+    fn from(_e: AllocError) -> CallFailure {
+        CallFailure::NoMemory
     }
 }
 
@@ -66,19 +69,20 @@ pub enum ConductRefusal {
     NoMemory,
 }
 
-// By hand, since the derive's conversions promise nothing of the refusal.
+// By hand, since the derive's conversion promises nothing of the refusal.
 impl From<SurveyRefusal> for ConductRefusal {
     ghost from_gives = { λ why refusal. refusal ≡ NotOpened why };
 
-    fn from(why: SurveyRefusal) -> Self {
-        Self::NotOpened(why)
+    fn from(why: SurveyRefusal) -> ConductRefusal {
+        ConductRefusal::NotOpened(why)
     }
 }
 
+// By hand, since the derive's conversion promises nothing of the refusal.
 impl<T: Drop> From<AllocFailed<T>> for ConductRefusal {
     ghost from_gives = { λ _ refusal. refusal ≡ NoMemory };
 
-    fn from(_failed: AllocFailed<T>) -> Self {
-        Self::NoMemory
+    fn from(_failed: AllocFailed<T>) -> ConductRefusal {
+        ConductRefusal::NoMemory
     }
 }

@@ -2,7 +2,7 @@
 use queries::query::Query;
 
 /// A shape with the query that is put to it.
-// Lent on by reference: a derived `Copy` would ask that the shape itself is `Copy`.
+// Lent on by reference: by value, each clause would have to say `.entry` of it.
 #[derive(Drop)]
 pub struct QueriedShape<'a, S> {
     pub shape: &'a S,

@@ -11,12 +11,13 @@ mod run;
 mod step;
 mod upcoming;
 mod waking;
+mod writing;
 
 /// Where a survey stands: the counts of its opening, the blocks that are settled, and the current one.
 ///
 /// Marks, values and the places of the queue lie in tables that each call is lent.
-// They go together through the calls and stay slices: lent tables are a rule of the project, and a struct of `&mut` would ask more of
-// callers that share their marks.
+// They stay slices: lent tables are a rule of the project, and a struct of `&mut` slices would be no plainer. Each clause would have to say
+// that its fields still hold the same references, and callers that share their marks could not make it.
 #[derive(Clone, Copy)]
 pub struct Survey {
     nodes: usize,

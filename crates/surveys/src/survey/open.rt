@@ -8,7 +8,6 @@ ghost use Rattle.surveys.specs.Standing.{lent};
 use crate::queried::QueriedShape;
 use crate::refusal::SurveyRefusal;
 use crate::survey::Survey;
-use crate::survey::reset::reset_blocks;
 use grades::grade::Grade;
 use shapes::shape::Shape;
 
@@ -40,7 +39,7 @@ impl Survey {
             current: None,
         };
         survey.check_fits(queried, marks, values, waiting)?;
-        reset_blocks(query, survey.blocks, survey.nodes, values, |_| true);
+        survey.reset_blocks(query, values, |_| true);
         waiting[..survey.terms * survey.nodes].fill(0);
         Ok(survey)
     }

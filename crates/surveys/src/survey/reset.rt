@@ -1,10 +1,10 @@
 //! Blocks set back to their start.
 ghost use Rattle.std.specs.Prelude.{◌≡◌, ℕ, ◌*◌, ◌<◌, ◌≤◌, ◌⊎◌, Bool, IsTrue, length, slice_index_or};
 ghost use Rattle.queries.specs.Queries.{table_of};
-ghost use Rattle.queries.specs.Table.{Reaches};
 ghost use Rattle.meaning.specs.Rounds.{start};
-ghost use Rattle.surveys.specs.Resets.{HasRows, Resets, Unsettles};
+ghost use Rattle.surveys.specs.Resets.{HasRows, Resets, Unsettles, with_flags};
 
+use crate::survey::Survey;
 use grades::grade::Grade;
 use queries::block::Solution;
 use queries::query::Query;
@@ -29,52 +29,54 @@ fn start_value<G: Grade>(solution: Solution) -> G
     }
 }
 
-/// Sets the entries of a block back to their start value.
-fn reset_block<G: Grade>(query: &Query, block: usize, nodes: usize, values: &mut [G])
-    requires { HasRows (table_of query.now) nodes values.old }
-    ensures { Resets G.kind (table_of query.now) nodes (λ b. b ≡ block) values.old values.new }
-{
-    let Some(span) = query.span(block) else {
-        return;
-    };
-    let Some(solution) = query.solution(block) else {
-        return;
-    };
-    fill(
-        values,
-        span.first * nodes,
-        span.end * nodes,
-        start_value(solution),
-    );
-}
+impl Survey {
+    /// Sets the entries of a block back to their start value.
+    fn reset_block<G: Grade>(&self, query: &Query, block: usize, values: &mut [G])
+        requires { HasRows (table_of query.now) self.now.nodes values.old }
+        ensures { Resets G.kind (table_of query.now) self.now.nodes (λ b. b ≡ block) values.old values.new }
+    {
+        let Some(span) = query.span(block) else {
+            return;
+        };
+        let Some(solution) = query.solution(block) else {
+            return;
+        };
+        fill(
+            values,
+            span.first * self.nodes,
+            span.end * self.nodes,
+            start_value(solution),
+        );
+    }
 
-/// Sets the entries of the blocks that a test names back to their start values, of the first `blocks`.
-pub(super) fn reset_blocks<G: Grade, F: Fn(usize) -> bool>(
-    query: &Query,
-    blocks: usize,
-    nodes: usize,
-    values: &mut [G],
-    named: F,
-)
-    requires room { HasRows (table_of query.now) nodes values.old }
-    requires callable { F.IsAlwaysCallable named }
-    ensures { (said : ℕ → Bool) × ((b : ℕ) → b < blocks → F.post named b (said b))
-        × Resets G.kind (table_of query.now) nodes (λ b. (b < blocks) × IsTrue (said b)) values.old values.new }
-{
-    for block in 0..blocks {
-        if named(block) {
-            reset_block(query, block, nodes, values);
+    /// Sets the entries of the blocks that a test names back to their start values.
+    pub(super) fn reset_blocks<G: Grade, F: Fn(usize) -> bool>(
+        &self,
+        query: &Query,
+        values: &mut [G],
+        named: F,
+    )
+        requires room { HasRows (table_of query.now) self.now.nodes values.old }
+        requires callable { F.IsAlwaysCallable named }
+        ensures { (said : ℕ → Bool) × ((b : ℕ) → b < self.now.blocks → F.post named b (said b))
+            × Resets G.kind (table_of query.now) self.now.nodes (λ b. (b < self.now.blocks) × IsTrue (said b)) values.old values.new }
+    {
+        for block in 0..self.blocks {
+            if named(block) {
+                self.reset_block(query, block, values);
+            }
         }
     }
-}
 
-/// Makes the blocks that a tag reaches stale, of the first `blocks`.
-pub(super) fn unsettle(query: &Query, tag: usize, blocks: usize, settled: &mut [bool])
-    ensures { Unsettles (table_of query.now) tag blocks settled.old settled.new }
-{
-    for (block, flag) in settled.iter_mut().enumerate() {
-        if block < blocks && query.reaches(tag, block) {
-            *flag = false;
+    /// Makes the blocks that a tag reaches stale.
+    pub(super) fn unsettle(&mut self, query: &Query, tag: usize)
+        ensures flags { Unsettles (table_of query.now) tag self.old.blocks self.old.settled self.new.settled }
+        ensures rest { self.new ≡ with_flags self.old self.new.settled }
+    {
+        for (block, flag) in self.settled.iter_mut().enumerate() {
+            if block < self.blocks && query.reaches(tag, block) {
+                *flag = false;
+            }
         }
     }
 }

@@ -1,5 +1,5 @@
 //! Marks changed while a survey stands.
-ghost use Rattle.std.specs.Prelude.{◌≡◌, ◌*◌, ◌<◌, ◌≤◌, ◌↔◌, IsTrue, length, MatchBool, ◌≢◌, slice_index_or, slice_set};
+ghost use Rattle.std.specs.Prelude.{◌≡◌, ◌*◌, ◌<◌, ◌≤◌, ◌↔◌, IsTrue, length};
 ghost use Rattle.queries.specs.Queries.{table_of};
 ghost use Rattle.queues.specs.Within.{Within};
 ghost use Rattle.surveys.specs.Calls.Call.{retag};
@@ -11,7 +11,7 @@ ghost use Rattle.surveys.specs.Standing.{lent};
 
 use crate::queried::QueriedShape;
 use crate::refusal::SurveyRefusal;
-use crate::survey::reset::{reset_blocks, unsettle};
+use crate::survey::writing::put;
 use crate::survey::{Survey, Work};
 use grades::grade::Grade;
 use queries::query::Query;
@@ -25,43 +25,24 @@ pub struct Mark<G> {
     pub grade: G,
 }
 
-/// Writes a grade to a place, and answers whether that altered it.
-fn put<G: Grade>(marks: &mut [G], place: usize, grade: G) -> bool
-    requires { place < length marks.old }
-    ensures says { MatchBool result (slice_index_or marks.old place G.kind.lowest ≢ grade) (slice_index_or marks.old place G.kind.lowest ≡ grade) }
-    ensures after { marks.new ≡ slice_set marks.old place grade }
-{
-    if marks[place].same(grade) {
-        return false;
-    }
-    marks[place] = grade;
-    true
-}
-
-/// Gives up the current block where a tag reaches it, and empties its queue, in a table of `entries` places and more.
-fn release(
-    current: Option<Work>,
-    query: &Query,
-    tag: usize,
-    entries: usize,
-    waiting: &mut [u32],
-) -> Option<Work>
-    requires { entries ≤ length waiting.old }
-    ensures { Releases (table_of query.now) tag entries current result waiting.old waiting.new }
-{
-    let mut work = current?;
-    if !query.reaches(tag, work.block) {
-        return current;
-    }
-    work.queue.clear(&mut waiting[..entries]);
-    None
-}
-
 impl Survey {
     fn has_mark(&self, node: usize, tag: usize) -> bool
         ensures { IsTrue result ↔ ((node < self.now.nodes) × (tag < self.now.tags)) }
     {
         node < self.nodes && tag < self.tags
+    }
+
+    /// What is current once a tag is set: a block that it reaches is given up, and its queue emptied.
+    fn release(&self, query: &Query, tag: usize, waiting: &mut [u32]) -> Option<Work>
+        requires { self.now.terms * self.now.nodes ≤ length waiting.old }
+        ensures { Releases (table_of query.now) tag (self.now.terms * self.now.nodes) self.now.current result waiting.old waiting.new }
+    {
+        let mut work = self.current?;
+        if !query.reaches(tag, work.block) {
+            return Some(work);
+        }
+        work.queue.clear(&mut waiting[..self.terms * self.nodes]);
+        None
     }
 
     /// Makes the blocks that a tag reaches stale, with their entries at their start values, and gives up the current one if it is reached.
@@ -77,11 +58,9 @@ impl Survey {
         requires waiting { self.old.terms * self.old.nodes ≤ length waiting.old }
         ensures { Restarts G.kind (table_of query.now) tag self.old self.new values.old values.new waiting.old waiting.new }
     {
-        reset_blocks(query, self.blocks, self.nodes, values, |block| {
-            query.reaches(tag, block)
-        });
-        unsettle(query, tag, self.blocks, &mut self.settled);
-        self.current = release(self.current, query, tag, self.terms * self.nodes, waiting);
+        self.reset_blocks(query, values, |block| query.reaches(tag, block));
+        self.unsettle(query, tag);
+        self.current = self.release(query, tag, waiting);
     }
 
     /// Sets the mark of a tag at a node, and answers whether that altered it.

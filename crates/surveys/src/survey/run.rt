@@ -15,7 +15,7 @@ impl Survey {
     /// Makes single steps until `most` are made or one is refused.
     ///
     /// Answers how many it made, and whether all blocks are then settled.
-    // A pair of a count and a flag: the project's rule for what a run answers.
+    // A pair, by a rule of the project: how many steps were made, and whether all blocks are settled. Neither hangs on the other.
     pub fn run<G: Grade, S: Shape>(
         &mut self,
         queried: &QueriedShape<'_, S>,

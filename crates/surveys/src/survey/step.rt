@@ -13,6 +13,7 @@ ghost use Rattle.surveys.specs.Stepping.{StepAnswers, Stored};
 use crate::queried::QueriedShape;
 use crate::refusal::SurveyRefusal;
 use crate::survey::upcoming::HeadEntry;
+use crate::survey::writing::put;
 use crate::survey::{Survey, Work};
 use grades::grade::Grade;
 use queues::queue::Queue;
@@ -40,10 +41,9 @@ impl<S: Shape> QueriedShape<'_, S> {
     {
         let _ = queue.take(waiting);
         let at = entry.term * self.shape.node_count() + entry.node;
-        if grade.same(values[at]) {
+        if !put(values, at, grade) {
             return;
         }
-        values[at] = grade;
         self.wake(
             entry.first,
             entry.node,
@@ -74,6 +74,7 @@ impl Survey {
             self.current = Some(work);
             return false;
         }
+        // No `get_mut`: of an array that is written through it the library's contract says only the length.
         if work.block < self.settled.len() {
             self.settled[work.block] = true;
         }

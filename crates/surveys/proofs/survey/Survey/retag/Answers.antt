@@ -2,10 +2,11 @@ use Rattle.std.proofs.Common.{◌+◌, ◌*◌, ◌<◌, ◌≤◌, length, arit
 use Rattle.queries.specs.Table.{Reaches}
 use Rattle.queries.proofs.Questions.{rules_kept}
 use Rattle.meaning.specs.Tables.{place}
+use Rattle.queues.proofs.Within.{within_same}
 use Rattle.surveys.specs.Promise.{opening}
 use Rattle.surveys.specs.Standing.{lent}
 use Rattle.surveys.specs.Queried.{tree_in, table_in}
-use Rattle.surveys.proofs.Remarks.{absent_by_rules, unaltered_by_rules, altered_so, reset_within, nothing_altered, same_within, released_within, mark_there, remarks_altered, remarks_same}
+use Rattle.surveys.proofs.Remarks.{absent_by_rules, unaltered_by_rules, altered_so, reset_within, nothing_altered, released_within, mark_there, remarks_altered, remarks_same}
 use Rattle.surveys.proofs.survey.Survey.retag.Goals as goal
 
 pub returns-then-not-has_mark : goal.returns-then-not-has_mark
@@ -20,8 +21,8 @@ returns-then-not-has_mark g c =
     record {
       rules = λ m. absent_by_rules (opening k t q m) v l c.args.mark.node c.args.mark.tag c.args.mark.grade absent;
       answer = ((fits, absent), nothing_altered v l);
-      values = same_within (v.terms * v.nodes) l.values;
-      waiting = same_within (v.terms * v.nodes) l.waiting;
+      values = within_same (v.terms * v.nodes) l.values;
+      waiting = within_same (v.terms * v.nodes) l.waiting;
     }
 
 pub overflow_mul-mark : goal.overflow_mul-mark
@@ -56,12 +57,12 @@ returns-then-altered g c =
     let v = c.args.self.now in
     let v' = c.restart.new.self in
     let l = lent c.args.marks.now c.args.values.now c.args.waiting.now in
-    let l' = lent c.put-altered.new.marks c.restart.new.values c.restart.new.waiting in
+    let l' = lent c.put-altered.new.table c.restart.new.values c.restart.new.waiting in
     let fits = c.in_ok-check_fits.ensures in
     let there = c.if-not-has_mark.ensures.0 refl in
     record {
       rules = λ m. altered_so (opening k t q m) (rules_kept c.args.queried.now.query.now) v v' l l' c.args.mark.node c.args.mark.tag c.args.mark.grade there.0 there.1 c.if-altered.ensures.says c.put-altered.ensures.after c.restart.ensures c.put-altered.result c.if-altered.true;
-      answer = remarks_altered k t q v l c.args.mark.node c.args.mark.tag c.args.mark.grade fits there.0 there.1 c.put-altered.new.marks c.put-altered.ensures.after c.if-altered.ensures.says c.put-altered.result c.if-altered.true v' c.restart.new.values c.restart.new.waiting c.restart.ensures;
+      answer = remarks_altered k t q v l c.args.mark.node c.args.mark.tag c.args.mark.grade fits there.0 there.1 c.put-altered.new.table c.put-altered.ensures.after c.if-altered.ensures.says c.put-altered.result c.if-altered.true v' c.restart.new.values c.restart.new.waiting c.restart.ensures;
       values = reset_within k q v fits.same_terms (λ b. (b < v.blocks) × Reaches q c.args.mark.tag b) l.values l'.values c.restart.ensures.values;
       waiting = released_within q c.args.mark.tag (v.terms * v.nodes) v.current v'.current l.waiting l'.waiting c.restart.ensures.current;
     }
@@ -76,8 +77,8 @@ returns-else-altered g c =
     let fits = c.in_ok-check_fits.ensures in
     let there = c.if-not-has_mark.ensures.0 refl in
     record {
-      rules = λ m. unaltered_by_rules k t q v l c.args.mark.node c.args.mark.tag c.args.mark.grade fits there.0 there.1 c.put-altered.new.marks c.put-altered.ensures.after m c.if-altered.ensures.says c.put-altered.result c.if-altered.false;
-      answer = remarks_same k t q v l c.args.mark.node c.args.mark.tag c.args.mark.grade fits there.0 there.1 c.put-altered.new.marks c.put-altered.ensures.after c.if-altered.ensures.says c.put-altered.result c.if-altered.false;
-      values = same_within (v.terms * v.nodes) l.values;
-      waiting = same_within (v.terms * v.nodes) l.waiting;
+      rules = λ m. unaltered_by_rules k t q v l c.args.mark.node c.args.mark.tag c.args.mark.grade fits there.0 there.1 c.put-altered.new.table c.put-altered.ensures.after m c.if-altered.ensures.says c.put-altered.result c.if-altered.false;
+      answer = remarks_same k t q v l c.args.mark.node c.args.mark.tag c.args.mark.grade fits there.0 there.1 c.put-altered.new.table c.put-altered.ensures.after c.if-altered.ensures.says c.put-altered.result c.if-altered.false;
+      values = within_same (v.terms * v.nodes) l.values;
+      waiting = within_same (v.terms * v.nodes) l.waiting;
     }

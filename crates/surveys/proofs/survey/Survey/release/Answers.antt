@@ -1,4 +1,4 @@
-use Rattle.std.proofs.Common.{◌≡◌, ℕ, ◌<◌, ◌≤◌, List, ◌++◌, length, get_or, take, drop, Some, None, Option, refl, ◌∙◌, inl, ⊎_elim}
+use Rattle.std.proofs.Common.{◌≡◌, ℕ, ◌*◌, ◌<◌, ◌≤◌, List, ◌++◌, length, get_or, take, drop, Some, None, Option, refl, ◌∙◌, inl, ⊎_elim}
 use Rattle.std.proofs.lemmas.List.{get_or-take, length-take-le}
 use Rattle.std.proofs.lemmas.Bool.{cases_lt}
 use Rattle.queries.specs.Queries.{table_of}
@@ -7,7 +7,7 @@ use Rattle.surveys.specs.declared.survey.Work.{Work}
 use Rattle.queues.specs.Within.{Within}
 use Rattle.surveys.specs.Resets.{Clears, Releases}
 use Rattle.surveys.proofs.Fronts.{front, past, within}
-use Rattle.surveys.proofs.survey.retag.release.Goals as goal
+use Rattle.surveys.proofs.survey.Survey.release.Goals as goal
 
 -- the first m places of a table, cleared below the size
 cleared : (w w' : List ℕ) (m size : ℕ) → m ≤ length w → ((p : ℕ) → p < size → get_or w' p 0 ≡ 0) → Within size (take m w) w' → Clears size m w (w' ++ drop m w)
@@ -24,5 +24,6 @@ released q tag m current work w w' is reached clears = rw is (inl (reached, refl
 
 pub returns : goal.returns
 returns c =
-    released (table_of c.args.query.now) c.args.tag c.args.entries c.args.current c.in_ok-work.work c.args.waiting.now _ c.in_ok-work.was (c.if-not-reaches.ensures.0 tt)
-    (cleared c.args.waiting.now c.clear.new.waiting c.args.entries c.in_ok-work.work.queue.size c.requires c.clear.ensures.below c.clear.ensures.stays.table)
+    let v = c.args.self.now in
+    released (table_of c.args.query.now) c.args.tag (v.terms * v.nodes) v.current c.in_ok-work.work c.args.waiting.now _ c.in_ok-work.was (c.if-not-reaches.ensures.0 tt)
+    (cleared c.args.waiting.now c.clear.new.waiting (v.terms * v.nodes) c.in_ok-work.work.queue.size c.requires c.clear.ensures.below c.clear.ensures.stays.table)
