@@ -1,5 +1,5 @@
 //! A small audit: a query settled over a model, with a lane re-marked in between.
-use anyhow::Context;
+use anyhow::anyhow;
 use queries::query::Query;
 use shapes::depth::DepthShape;
 use shapes::shape::Shape;
@@ -89,7 +89,7 @@ pub fn print_audit(
         &mut waiting,
         &calls,
     )
-    .context("the survey was refused")?;
+    .map_err(|_| anyhow!("the survey was refused"))?;
     println!(rt; "node {node} is marked, and later not")?;
     for answer in &answers {
         let report = Report(answer);

@@ -42,12 +42,6 @@ impl ModelFault {
     }
 }
 
-impl From<TextFault> for ModelFault {
-    fn from(fault: TextFault) -> ModelFault {
-        ModelFault::Text(fault)
-    }
-}
-
 impl fmt::Display for ModelFault {
     fn fmt<W: fmt::Write>(&self, f: &mut fmt::Formatter<W>) -> fmt::Result {
         let nodes = self.nodes();

@@ -1,16 +1,15 @@
 //! The listing of a shape's neighbours, as listed and mirrored.
+use shapes::axis::Axis;
 use shapes::depth::DepthShape;
 use shapes::mirrored::Mirrored;
 use shapes::shape::Shape;
 use std::{fmt, io};
 
 /// A node's neighbours along the four axes.
-#[derive(Clone, Copy)]
-struct Neighbours {
-    first: Option<usize>,
-    next: Option<usize>,
-    owner: Option<usize>,
-    previous: Option<usize>,
+#[derive(Drop)]
+struct Neighbours<'a, S> {
+    shape: &'a S,
+    node: usize,
 }
 
 /// A number, or a dash where there is none.
@@ -26,22 +25,12 @@ impl fmt::Display for Column {
     }
 }
 
-impl fmt::Display for Neighbours {
+impl<S: Shape> fmt::Display for Neighbours<'_, S> {
     fn fmt<W: fmt::Write>(&self, f: &mut fmt::Formatter<W>) -> fmt::Result {
-        let first = Column(self.first);
-        let next = Column(self.next);
-        let owner = Column(self.owner);
-        let previous = Column(self.previous);
-        write!(f, "{first}{next}{owner}{previous}")
-    }
-}
-
-fn around<S: Shape>(shape: &S, node: usize) -> Neighbours {
-    Neighbours {
-        first: shape.first_of(node),
-        next: shape.next_of(node),
-        owner: shape.owner_of(node),
-        previous: shape.previous_of(node),
+        for axis in [Axis::First, Axis::Next, Axis::Owner, Axis::Previous] {
+            Column(self.shape.neighbour(axis, self.node)).fmt(f)?;
+        }
+        Ok(())
     }
 }
 
@@ -50,8 +39,12 @@ pub fn print_neighbours(rt: &impl Print, mirrored: &Mirrored<DepthShape>) -> io:
     println!(rt; "        as listed                      mirrored")?;
     println!(rt; " node  first   next  owner   prev   |  first   next  owner   prev")?;
     for node in 0..mirrored.node_count() {
-        let listed = around(mirrored.inner(), node);
-        let turned = around(mirrored, node);
+        let shape = mirrored.inner();
+        let listed = Neighbours { shape, node };
+        let turned = Neighbours {
+            shape: mirrored,
+            node,
+        };
         println!(rt; "{node:>5}{listed}   |{turned}")?;
     }
     Ok(mirrored.node_count())

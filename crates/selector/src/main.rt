@@ -31,7 +31,7 @@ fn main(rt: HostRuntime) -> anyhow::Result<()> {
 
 /// The shape of a model that is kept as a list of depths.
 fn shape_of(heap: Global, text: &[u8]) -> Result<DepthShape, ModelFault> {
-    let depths = read_depths(heap, text)?;
+    let depths = read_depths(heap, text).map_err(ModelFault::Text)?;
     filled(heap, &depths).map_err(|why| ModelFault::Shape {
         nodes: depths.len(),
         why,
