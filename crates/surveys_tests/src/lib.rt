@@ -1,0 +1,9 @@
+//! Surveys, opened, settled, read and refused on examples.
+#![tactic(auto)]
+
+#[cfg(test)]
+mod fixture;
+#[cfg(test)]
+mod refusals;
+#[cfg(test)]
+mod tests;
