@@ -1,7 +1,7 @@
 //! Lists of calls on one survey.
-ghost use Rattle.std.specs.Prelude.{◌≡◌, map, IfSome, MatchResult};
+ghost use Rattle.std.specs.Prelude.{MatchOption, MatchResult};
 ghost use Rattle.meaning.specs.Solutions.{Grades};
-ghost use Rattle.surveys.specs.Conducting.{asks, answers, kept_of, Conducted, NotConducted};
+ghost use Rattle.surveys.specs.Conducting.{asks, answers, kept_of, Conducted, NotConducted, Unkept};
 ghost use Rattle.surveys.specs.Opens.{Agrees};
 ghost use Rattle.surveys.specs.Queried.{tree_in, table_in, opening_on, KeepsRules};
 ghost use Rattle.surveys.specs.Standing.{lent};
@@ -25,7 +25,11 @@ impl Survey {
         waiting: &mut [u32],
         call: Call<G>,
     ) -> Result<Answer<G>, CallFailure>
-        ensures { IfSome (kept_of result) (λ a. KeepsRules G.kind S.Shape queried.now (asks call) (answers G.kind a)
+        ensures { MatchOption (kept_of result)
+            (Unkept G.kind S.Shape queried.now call
+            self.old (lent marks.old values.old waiting.old)
+            self.new (lent marks.new values.new waiting.new))
+            (λ a. KeepsRules G.kind S.Shape queried.now (asks call) (answers G.kind a)
             self.old (lent marks.old values.old waiting.old)
             self.new (lent marks.new values.new waiting.new)) }
     {
@@ -52,6 +56,8 @@ impl Survey {
 }
 
 /// Opens a survey and makes every call of a list on it, keeping each answer.
+///
+/// Where memory runs out for an answer, that call was made, and none after it.
 pub fn conduct<G: Grade, S: Shape>(
     heap: Global,
     queried: &QueriedShape<'_, S>,
@@ -64,7 +70,7 @@ pub fn conduct<G: Grade, S: Shape>(
         (λ given. (m : Grades G) →
         Agrees G.kind (tree_in S.Shape queried.now) (table_in queried.now) (lent marks.old values.old waiting.old) m →
         Conducted (opening_on G.kind S.Shape queried.now m) calls.now given.items (lent marks.new values.new waiting.new))
-        (λ why. NotConducted (tree_in S.Shape queried.now) (table_in queried.now)
+        (λ why. NotConducted G.kind (tree_in S.Shape queried.now) (table_in queried.now) calls.now
         (lent marks.old values.old waiting.old)
         (lent marks.new values.new waiting.new) why) }
 {
