@@ -46,4 +46,5 @@ pub mod Stepped
 pub mod StepsLeft
 pub mod Sums
 pub mod Taken
+pub mod Upcoming
 pub mod Wakes

@@ -93,6 +93,7 @@ impl Survey {
     }
 
     /// The current work, or that of the lowest stale block from its start; none where all blocks are settled.
+    #[tactic(auto, using(crate::proofs::Upcoming::takes_up))]
     pub(super) fn next_work<S: Shape>(&self, queried: &QueriedShape<'_, S>) -> Option<Work>
         ensures { MatchOption result (NothingLeft self.now) (λ w. TakesUp (table_in queried.now) (S.count queried.now.shape.now) self.now w) }
     {
