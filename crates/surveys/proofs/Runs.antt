@@ -1,10 +1,12 @@
 -- Steps in a row, each held to the rules, are a run of the rules.
-use Rattle.std.proofs.Common.{◌≡◌, ℕ, suc, ◌+◌, ◌<◌, ◌≤◌, Bool, true, false, T, List, [], ◌∷◌, ◌++◌, length, get_or, sym, refl, ap, ◌∙◌, subst, add-one, arith}
+use Rattle.std.proofs.Common.{◌≡◌, ℕ, suc, ◌+◌, ◌*◌, ◌<◌, ◌≤◌, Bool, true, false, T, List, [], ◌∷◌, ◌++◌, length, get_or, sym, refl, ap, ◌∙◌, subst, add-one, arith}
 use Rattle.std.proofs.lemmas.List.{length_push, get_or_append_left, get_or_push}
 use Rattle.grades.specs.Kind.{Kind, Says}
 use Rattle.shapes.specs.Tree.{Tree}
 use Rattle.queries.specs.Table.{Table}
 use Rattle.meaning.specs.Solutions.{Grades}
+use Rattle.queues.specs.Within.{Within}
+use Rattle.queues.proofs.Within.{within_same}
 use Rattle.surveys.specs.declared.refusal.SurveyRefusal.{SurveyRefusal}
 use Rattle.surveys.specs.declared.survey.Survey.{Survey}
 use Rattle.surveys.specs.Rules.{Opening, State, Steps, Makes, EveryBlockSettled}
@@ -57,17 +59,19 @@ step_refused o s why s' (Does.nothing_left h) = h
 pub record Made {G : Type 0} (k : Kind G) (t : Tree) (q : Table) (n : ℕ) (v : Survey) (l : Lent G) (v' : Survey) (l' : Lent G) : Type 0 where
   pub by_rules : (m : Grades G) (s : State G) → Stands (opening k t q m) s v l → (s' : State G) × (Makes (opening k t q m) n s s' × Stands (opening k t q m) s' v' l')
   pub values : AlteredAtMost n l.values l'.values
+  pub within : Within (length q.terms * t.count) l.values l'.values
   pub waiting : length l'.waiting ≡ length l.waiting
 
 module _ {G : Type 0} {k : Kind G} {t : Tree} {q : Table} {v : Survey} {l : Lent G} where
   pub made_none : Made k t q 0 v l v l
-  made_none = record { by_rules = λ m s st. (s, (Makes.none s, st)); values = altered_none l.values; waiting = refl }
+  made_none = record { by_rules = λ m s st. (s, (Makes.none s, st)); values = altered_none l.values; within = within_same (length q.terms * t.count) l.values; waiting = refl }
 
   -- one step more
-  pub made_more : {n : ℕ} {v₁ v₂ : Survey} {l₁ l₂ : Lent G} (all : Bool) → Made k t q n v l v₁ l₁ → ((m : Grades G) → ByRules (opening k t q m) step (stepped all) v₁ l₁ v₂ l₂) → AlteredAtMost 1 l₁.values l₂.values → length l₂.waiting ≡ length l₁.waiting → Made k t q (n + 1) v l v₂ l₂
-  made_more {n} {v₁} {v₂} {l₁} {l₂} all h rules altered waits = record {
+  pub made_more : {n : ℕ} {v₁ v₂ : Survey} {l₁ l₂ : Lent G} (all : Bool) → Made k t q n v l v₁ l₁ → ((m : Grades G) → ByRules (opening k t q m) step (stepped all) v₁ l₁ v₂ l₂) → AlteredAtMost 1 l₁.values l₂.values → Within (length q.terms * t.count) l₁.values l₂.values → length l₂.waiting ≡ length l₁.waiting → Made k t q (n + 1) v l v₂ l₂
+  made_more {n} {v₁} {v₂} {l₁} {l₂} all h rules altered within waits = record {
     by_rules = λ m s st. let p = h.by_rules m s st in let r = rules m p.0 p.1.1 in (r.0, (rw add-one (makes_more (opening k t q m) p.1.0 (step_made (opening k t q m) p.0 all r.0 r.1.0)), r.1.1));
     values = altered_more n l.values l₁.values l₂.values h.values altered;
+    within = record { same_length = within.same_length ∙ h.within.same_length; beyond = λ p d past. within.beyond p d past ∙ h.within.beyond p d past };
     waiting = waits ∙ h.waiting;
   }
 

@@ -9,6 +9,7 @@ use Rattle.meaning.specs.Solutions.{Grades}
 use Rattle.meaning.specs.Tables.{place}
 use Rattle.queues.specs.declared.queue.Queue.{Queue}
 use Rattle.queues.specs.Threads.{first, In as Waits}
+use Rattle.queues.specs.Within.{Within}
 use Rattle.queues.proofs.Lists.{head_first}
 use Rattle.queues.proofs.Uses.{threads_below}
 use Rattle.surveys.specs.declared.refusal.SurveyRefusal.TheVariants.{AllSettled, ForeignEntry}
@@ -42,6 +43,13 @@ altered_one before after at g is = record {
   others = λ k d apart. ap (λ l. get_or l k d) is ∙ get_or-set_other before at k g d (λ same. apart 0 (omega arith) (sym same));
 }
 
+-- and with none altered from n on
+pub within_one : {G : Type 0} (n : ℕ) (before after : List G) (at : ℕ) (g : G) → at < n → after ≡ set before at g → Within n before after
+within_one n before after at g below is = record {
+  same_length = ap length is ∙ length-set before at g;
+  beyond = λ k d past. ap (λ l. get_or l k d) is ∙ get_or-set_other before at k g d (λ same. omega arith);
+}
+
 -- a step takes up one work only, and none where nothing is left
 stale_once : (v : Survey) (b c : ℕ) → FirstStale v b → FirstStale v c → b ≡ c
 stale_once v b c h k = elim (cases_order b c) [
@@ -66,12 +74,13 @@ pub works_off_not : {G : Type 0} (t : Tree) (q : Table) (v : Survey) (l : Lent G
 works_off_not t q v l w up none works =
     none works.entry (subst (λ w. Evaluates t q l.marks l.values w works.entry) (takes_up_once works.takes_up up) works.evaluates)
 
--- an entry of the block has its place in the values
-pub entry_inside : {G : Type 0} (k : Kind G) (t : Tree) (q : Table) → Admitted q → (v : Survey) (l : Lent G) (w : Work) (h : HeadEntry) (grade : G) → Fits v t.count (length q.terms) l → Evaluated k t q l.marks l.values w h grade → (h.node < t.count) × (place t.count h.term h.node < length l.values)
+-- an entry of the block has its place among the entries, and so in the values
+pub entry_inside : {G : Type 0} (k : Kind G) (t : Tree) (q : Table) → Admitted q → (v : Survey) (l : Lent G) (w : Work) (h : HeadEntry) (grade : G) → Fits v t.count (length q.terms) l → Evaluated k t q l.marks l.values w h grade → (h.node < t.count) × (place t.count h.term h.node < length q.terms * t.count) × (place t.count h.term h.node < length l.values)
 entry_inside k t q a v l w h grade fits ev =
     let node : h.node < t.count = omega (arith, ap (λ (h : HeadEntry). h.node) ev.is, ev.evaluates.readable.node) in
     let term : h.term < length q.terms = omega (arith, ap (λ (h : HeadEntry). h.term) ev.is, term_stands a w.block t.count ev.entry ev.evaluates.heads.inside) in
-    (node, omega (arith, place_inside t.count (length q.terms) h.term h.node term node, fits.roomy.values, ap₂ (λ a b. a * b) fits.same_terms fits.same_nodes))
+    let inside : place t.count h.term h.node < length q.terms * t.count = place_inside t.count (length q.terms) h.term h.node term node in
+    (node, inside, omega (arith, fits.roomy.values, ap₂ (λ a b. a * b) fits.same_terms fits.same_nodes))
 
 -- what is written there is what the entry takes
 pub takes_so : {G : Type 0} (k : Kind G) (t : Tree) (q : Table) (l : Lent G) (w : Work) (h : HeadEntry) (grade : G) (values : List G) (ev : Evaluated k t q l.marks l.values w h grade) → values ≡ set l.values (place t.count h.term h.node) grade →

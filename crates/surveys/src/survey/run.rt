@@ -1,4 +1,6 @@
 //! Several steps at once.
+ghost use Rattle.std.specs.Prelude.{◌*◌, length};
+ghost use Rattle.queues.specs.Within.{Within};
 ghost use Rattle.surveys.specs.Calls.Call.{run as running};
 ghost use Rattle.surveys.specs.Held.{of_run};
 ghost use Rattle.surveys.specs.Queried.{table_in, KeepsRules};
@@ -30,6 +32,7 @@ impl Survey {
         ensures answer { RunAnswers (S.count queried.now.shape.now) (table_in queried.now) most
             self.old (lent marks.now values.old waiting.old)
             self.new (lent marks.now values.new waiting.new) result }
+        ensures values { Within (length (table_in queried.now).terms * S.count queried.now.shape.now) values.old values.new }
     {
         self.check_fits(queried, marks, values, waiting)?;
         for made in 0..most {

@@ -1,8 +1,9 @@
 //! One step of a survey: the entry at the head of the queue takes the grade of its term.
-ghost use Rattle.std.specs.Prelude.{◌≡◌, ℕ, ◌<◌, ◌≤◌, not, List, length, is_some, slice_index, slice_set};
+ghost use Rattle.std.specs.Prelude.{◌≡◌, ℕ, ◌*◌, ◌<◌, ◌≤◌, not, List, length, is_some, slice_index, slice_set};
 ghost use Rattle.meaning.specs.Tables.{place, grades_in};
 ghost use Rattle.queues.specs.Calls.{StaysWithin, head_of};
 ghost use Rattle.queues.specs.Threads.{Threads, rest};
+ghost use Rattle.queues.specs.Within.{Within};
 ghost use Rattle.surveys.specs.Calls.Call.{step as stepping};
 ghost use Rattle.surveys.specs.Held.{of_step, AlteredAtMost};
 ghost use Rattle.surveys.specs.Queried.{tree_in, table_in, KeepsRules};
@@ -99,6 +100,7 @@ impl Survey {
         ensures refusals { StepAnswers G.kind (tree_in S.Shape queried.now) (table_in queried.now)
             self.old (lent marks.now values.old waiting.old)
             self.new (lent marks.now values.new waiting.new) result }
+        ensures values { Within (length (table_in queried.now).terms * S.count queried.now.shape.now) values.old values.new }
         ensures bounded { AlteredAtMost 1 values.old values.new × (length waiting.new ≡ length waiting.old) }
     {
         self.check_fits(queried, marks, values, waiting)?;
