@@ -47,4 +47,5 @@ pub mod StepsLeft
 pub mod Sums
 pub mod Taken
 pub mod Upcoming
+pub mod Waiting
 pub mod Wakes

@@ -13,11 +13,12 @@ use Rattle.surveys.specs.Rules.{Opening, State, Steps, Makes, EveryBlockSettled}
 use Rattle.surveys.specs.Calls.{Does}
 use Rattle.surveys.specs.Calls.Call.{step, run}
 use Rattle.surveys.specs.Calls.Answer.{stepped, ran, refused}
-use Rattle.surveys.specs.Held.{ByRules, AlteredAtMost}
+use Rattle.surveys.specs.Held.{ByRules, AlteredAtMost, WaitsWithin}
 use Rattle.surveys.specs.Promise.{opening}
 use Rattle.surveys.specs.Running.{RunsWithin}
 use Rattle.surveys.specs.Standing.{Lent, Stands}
 use Rattle.surveys.specs.Stepping.{AllFlagged}
+use Rattle.surveys.proofs.Waiting.{waits_same, waits_both}
 
 -- a table that was altered in n places, and then in one more
 altered_more : {G : Type 0} (n : ℕ) (a b c : List G) → AlteredAtMost n a b → AlteredAtMost 1 b c → AlteredAtMost (n + 1) a c
@@ -60,19 +61,19 @@ pub record Made {G : Type 0} (k : Kind G) (t : Tree) (q : Table) (n : ℕ) (v : 
   pub by_rules : (m : Grades G) (s : State G) → Stands (opening k t q m) s v l → (s' : State G) × (Makes (opening k t q m) n s s' × Stands (opening k t q m) s' v' l')
   pub values : AlteredAtMost n l.values l'.values
   pub within : Within (length q.terms * t.count) l.values l'.values
-  pub waiting : length l'.waiting ≡ length l.waiting
+  pub waiting : WaitsWithin (length q.terms * t.count) v l.waiting v' l'.waiting
 
 module _ {G : Type 0} {k : Kind G} {t : Tree} {q : Table} {v : Survey} {l : Lent G} where
   pub made_none : Made k t q 0 v l v l
-  made_none = record { by_rules = λ m s st. (s, (Makes.none s, st)); values = altered_none l.values; within = within_same (length q.terms * t.count) l.values; waiting = refl }
+  made_none = record { by_rules = λ m s st. (s, (Makes.none s, st)); values = altered_none l.values; within = within_same (length q.terms * t.count) l.values; waiting = waits_same (length q.terms * t.count) v l.waiting }
 
   -- one step more
-  pub made_more : {n : ℕ} {v₁ v₂ : Survey} {l₁ l₂ : Lent G} (all : Bool) → Made k t q n v l v₁ l₁ → ((m : Grades G) → ByRules (opening k t q m) step (stepped all) v₁ l₁ v₂ l₂) → AlteredAtMost 1 l₁.values l₂.values → Within (length q.terms * t.count) l₁.values l₂.values → length l₂.waiting ≡ length l₁.waiting → Made k t q (n + 1) v l v₂ l₂
+  pub made_more : {n : ℕ} {v₁ v₂ : Survey} {l₁ l₂ : Lent G} (all : Bool) → Made k t q n v l v₁ l₁ → ((m : Grades G) → ByRules (opening k t q m) step (stepped all) v₁ l₁ v₂ l₂) → AlteredAtMost 1 l₁.values l₂.values → Within (length q.terms * t.count) l₁.values l₂.values → WaitsWithin (length q.terms * t.count) v₁ l₁.waiting v₂ l₂.waiting → Made k t q (n + 1) v l v₂ l₂
   made_more {n} {v₁} {v₂} {l₁} {l₂} all h rules altered within waits = record {
     by_rules = λ m s st. let p = h.by_rules m s st in let r = rules m p.0 p.1.1 in (r.0, (rw add-one (makes_more (opening k t q m) p.1.0 (step_made (opening k t q m) p.0 all r.0 r.1.0)), r.1.1));
     values = altered_more n l.values l₁.values l₂.values h.values altered;
     within = record { same_length = within.same_length ∙ h.within.same_length; beyond = λ p d past. within.beyond p d past ∙ h.within.beyond p d past };
-    waiting = waits ∙ h.waiting;
+    waiting = waits_both h.waiting waits;
   }
 
 pub true_of : (b : Bool) → T b → b ≡ true
@@ -102,4 +103,4 @@ run_refused {G} {k} {t} {q} {v} {v₁} {v₂} {l} {l₁} {l₂} most n all why f
     ends m s st = let r = rules m s st in step_refused (opening k t q m) s why r.0 r.1.0
 
 pub runs_within : {G : Type 0} {k : Kind G} {t : Tree} {q : Table} {v v' : Survey} {l l' : Lent G} {n : ℕ} (most : ℕ) → n ≤ most → Made k t q n v l v' l' → RunsWithin most n l l'
-runs_within most few h = record { few = few; values = h.values; waiting = h.waiting }
+runs_within most few h = record { few = few; values = h.values }

@@ -1,7 +1,9 @@
 -- What the calls on a survey are held to, in the words of the rules.
-use Rattle.std.specs.Prelude.{◌≡◌, ℕ, ◌<◌, Bool, List, length, Ok, Err, Result, ◌≢◌, slice_index, slice_index_or}
+use Rattle.std.specs.Prelude.{◌≡◌, ℕ, ◌<◌, ◌≤◌, max, Bool, List, length, Some, None, Ok, Err, Option, Result, ◌≢◌, slice_index, slice_index_or}
+use Rattle.queues.specs.Within.{Within}
 use Rattle.surveys.specs.declared.refusal.SurveyRefusal.{SurveyRefusal}
 use Rattle.surveys.specs.declared.survey.Survey.{Survey}
+use Rattle.surveys.specs.declared.survey.Work.{Work}
 use Rattle.surveys.specs.Rules.{Opening, State}
 use Rattle.surveys.specs.Calls.{Call, Answer, Does}
 use Rattle.surveys.specs.Calls.Answer.{altered, stepped, ran, refused}
@@ -30,3 +32,13 @@ pub record AlteredAtMost {G : Type 0} (n : ℕ) (before after : List G) : Type 0
   pub places : List ℕ
   pub few : length places ≡ n
   pub others : (k : ℕ) (d : G) → ((j : ℕ) → j < n → slice_index places j ≢ k) → slice_index_or after k d ≡ slice_index_or before k d
+
+-- how far the queues write: over n entries, and further where the current queue does
+abbrev pub queue_places : ℕ → Option Work → ℕ
+queue_places n None = n
+queue_places n (Some w) = max n w.queue.size
+
+-- no waiting place is written past these, and the queue then reaches no further
+pub record WaitsWithin (n : ℕ) (v : Survey) (waiting : List ℕ) (v' : Survey) (waiting' : List ℕ) : Type 0 where
+  pub table : Within (queue_places n v.current) waiting waiting'
+  pub queue : queue_places n v'.current ≤ queue_places n v.current

@@ -11,7 +11,6 @@ use Rattle.surveys.specs.Standing.{Lent, Fits}
 pub record RunsWithin {G : Type 0} (most made : ℕ) (l l' : Lent G) : Type 0 where
   pub few : made ≤ most
   pub values : AlteredAtMost made l.values l'.values
-  pub waiting : length l'.waiting ≡ length l.waiting
 
 abbrev pub RunAnswers : {G : Type 0} → ℕ → Table → ℕ → Survey → Lent G → Survey → Lent G → Result (ℕ × Bool) SurveyRefusal → Type 0
 RunAnswers nodes q most v l v' l' (Ok (made, all)) = Fits v nodes (length q.terms) l × RunsWithin most made l l'

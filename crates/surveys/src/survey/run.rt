@@ -2,7 +2,7 @@
 ghost use Rattle.std.specs.Prelude.{◌*◌, length};
 ghost use Rattle.queues.specs.Within.{Within};
 ghost use Rattle.surveys.specs.Calls.Call.{run as running};
-ghost use Rattle.surveys.specs.Held.{of_run};
+ghost use Rattle.surveys.specs.Held.{of_run, WaitsWithin};
 ghost use Rattle.surveys.specs.Queried.{table_in, KeepsRules};
 ghost use Rattle.surveys.specs.Running.{RunAnswers};
 ghost use Rattle.surveys.specs.Standing.{lent};
@@ -33,6 +33,7 @@ impl Survey {
             self.old (lent marks.now values.old waiting.old)
             self.new (lent marks.now values.new waiting.new) result }
         ensures values { Within (length (table_in queried.now).terms * S.count queried.now.shape.now) values.old values.new }
+        ensures waiting { WaitsWithin (length (table_in queried.now).terms * S.count queried.now.shape.now) self.old waiting.old self.new waiting.new }
     {
         self.check_fits(queried, marks, values, waiting)?;
         for made in 0..most {

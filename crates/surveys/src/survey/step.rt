@@ -5,7 +5,7 @@ ghost use Rattle.queues.specs.Calls.{StaysWithin, head_of};
 ghost use Rattle.queues.specs.Threads.{Threads, rest};
 ghost use Rattle.queues.specs.Within.{Within};
 ghost use Rattle.surveys.specs.Calls.Call.{step as stepping};
-ghost use Rattle.surveys.specs.Held.{of_step, AlteredAtMost};
+ghost use Rattle.surveys.specs.Held.{of_step, AlteredAtMost, WaitsWithin};
 ghost use Rattle.surveys.specs.Queried.{tree_in, table_in, KeepsRules};
 ghost use Rattle.surveys.specs.Standing.{lent};
 ghost use Rattle.surveys.specs.StepParts.{Requeued, WokenInside};
@@ -101,7 +101,8 @@ impl Survey {
             self.old (lent marks.now values.old waiting.old)
             self.new (lent marks.now values.new waiting.new) result }
         ensures values { Within (length (table_in queried.now).terms * S.count queried.now.shape.now) values.old values.new }
-        ensures bounded { AlteredAtMost 1 values.old values.new × (length waiting.new ≡ length waiting.old) }
+        ensures waiting { WaitsWithin (length (table_in queried.now).terms * S.count queried.now.shape.now) self.old waiting.old self.new waiting.new }
+        ensures bounded { AlteredAtMost 1 values.old values.new }
     {
         self.check_fits(queried, marks, values, waiting)?;
         let Some(mut work) = self.next_work(queried) else {

@@ -20,7 +20,7 @@ pub loop-made-preserved : goal.loop-made-preserved
 loop-made-preserved g c =
     let e = c.step.ensures in
     let so = accepted c.step.result c.if-is_err.ensures.value in
-    made_more so.0 c.loop-made.invariant (λ m. rw so.1 at (e.rules m)) e.bounded.0 e.values e.bounded.1
+    made_more so.0 c.loop-made.invariant (λ m. rw so.1 at (e.rules m)) e.bounded e.values e.waiting
 
 pub returns-then-is_err : goal.returns-then-is_err
 returns-then-is_err g c =
@@ -29,7 +29,7 @@ returns-then-is_err g c =
     let so = refused c.step.result c.if-is_err.ensures.value in
     let why = rw so.1 at e.refusals in
     let r = run_refused c.args.most c.loop-made.made c.is_none.result so.0 few c.loop-made.invariant (λ m. rw so.1 at (e.rules m)) why.1.0 why.1.1 (found_says c.step.new.self c.first_stale.result c.is_none.result c.is_none.ensures c.first_stale.ensures) in
-    record { rules = r.0; answer = (c.in_ok-check_fits.ensures, runs_within {l = lent c.args.marks.now c.args.values.now c.args.waiting.now} {l' = lent c.args.marks.now c.step.new.values c.step.new.waiting} c.args.most few r.1); values = r.1.within }
+    record { rules = r.0; answer = (c.in_ok-check_fits.ensures, runs_within {l = lent c.args.marks.now c.args.values.now c.args.waiting.now} {l' = lent c.args.marks.now c.step.new.values c.step.new.waiting} c.args.most few r.1); values = r.1.within; waiting = r.1.waiting }
 
 pub returns : goal.returns
 returns g c =
@@ -39,4 +39,5 @@ returns g c =
       rules = run_done c.args.most c.args.most c.is_none-2.result (omega arith) h (found_says c.loop-made.self c.first_stale-2.result c.is_none-2.result c.is_none-2.ensures c.first_stale-2.ensures) (λ less. absurd (omega arith));
       answer = (c.in_ok-check_fits.ensures, runs_within {l = lent c.args.marks.now c.args.values.now c.args.waiting.now} {l' = lent c.args.marks.now c.loop-made.values c.loop-made.waiting} c.args.most (omega arith) h);
       values = h.within;
+      waiting = h.waiting;
     }

@@ -5,6 +5,7 @@ use Rattle.queues.proofs.Within.{within_same}
 use Rattle.surveys.specs.Standing.{lent}
 use Rattle.surveys.specs.Queried.{tree_in, table_in}
 use Rattle.surveys.proofs.StepAnswers.{altered_none, altered_one, within_one, takes_up_some, works_off_not, entry_inside, takes_so, all_settled, no_foreign_entry, works_off}
+use Rattle.surveys.proofs.Waiting.{waits_same, step_waits}
 use Rattle.surveys.proofs.survey.Survey.step.Goals as goal
 
 pub returns-in_default : goal.returns-in_default
@@ -16,7 +17,8 @@ returns-in_default g c =
       rules = λ m. all_settled g.G.Grade.kind t q (rules_kept c.args.queried.now.query.now) (g.met.S.Shape.laws c.args.queried.now.shape.now) c.args.self.now l m c.in_default.ensures;
       refusals = ((c.in_ok-check_fits.ensures, c.in_default.ensures), (refl {a = c.args.self.now}, refl {a = l}));
       values = within_same (length q.terms * t.count) c.args.values.now;
-      bounded = (altered_none c.args.values.now, refl {a = length c.args.waiting.now});
+      waiting = waits_same (length q.terms * t.count) c.args.self.now c.args.waiting.now;
+      bounded = altered_none c.args.values.now;
     }
 
 pub returns-in_default-evaluated : goal.returns-in_default-evaluated
@@ -28,7 +30,8 @@ returns-in_default-evaluated g c =
       rules = λ m. no_foreign_entry g.G.Grade.kind t q (rules_kept c.args.queried.now.query.now) (g.met.S.Shape.laws c.args.queried.now.shape.now) c.args.self.now l m c.in-Some.work c.in-Some.ensures c.in_default-evaluated.ensures;
       refusals = ((c.in_ok-check_fits.ensures, (takes_up_some c.in-Some.ensures, works_off_not t q c.args.self.now l c.in-Some.work c.in-Some.ensures c.in_default-evaluated.ensures)), (refl {a = c.args.self.now}, refl {a = l}));
       values = within_same (length q.terms * t.count) c.args.values.now;
-      bounded = (altered_none c.args.values.now, refl {a = length c.args.waiting.now});
+      waiting = waits_same (length q.terms * t.count) c.args.self.now c.args.waiting.now;
+      bounded = altered_none c.args.values.now;
     }
 
 pub work_off-requires : goal.work_off-requires
@@ -65,5 +68,6 @@ returns g c =
           within_one (length q.terms * t.count) c.args.values.now c.work_off.new.values (place t.count c.in-Some-evaluated.next.entry.term c.in-Some-evaluated.next.entry.node) c.in-Some-evaluated.next.grade
           (entry_inside g.G.Grade.kind t q (rules_kept c.args.queried.now.query.now) c.args.self.now l c.in-Some.work c.in-Some-evaluated.next.entry c.in-Some-evaluated.next.grade c.in_ok-check_fits.ensures c.in-Some-evaluated.ensures).1
           c.work_off.ensures.values;
-      bounded = (altered_one c.args.values.now c.work_off.new.values (place t.count c.in-Some-evaluated.next.entry.term c.in-Some-evaluated.next.entry.node) c.in-Some-evaluated.next.grade c.work_off.ensures.values, c.work_off.ensures.stays.table.same_length);
+      waiting = step_waits (rules_kept c.args.queried.now.query.now) c.in-Some.ensures c.work_off.new.queue c.args.waiting.now c.work_off.new.waiting c.work_off.ensures.stays c.store.new.self c.store.result c.store.ensures;
+      bounded = altered_one c.args.values.now c.work_off.new.values (place t.count c.in-Some-evaluated.next.entry.term c.in-Some-evaluated.next.entry.node) c.in-Some-evaluated.next.grade c.work_off.ensures.values;
     }
