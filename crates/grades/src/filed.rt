@@ -1,6 +1,6 @@
 //! Kinds of grade that stand in files, as numbers.
-ghost use Rattle.std.specs.Prelude.{◌≡◌, ℕ, if◌then◌else◌, MatchOption, ◌≢◌};
-ghost use Rattle.grades.specs.Filed.{Numbered};
+ghost use Rattle.std.specs.Prelude.{◌≡◌, ℕ, MatchOption, ◌≢◌};
+ghost use Rattle.grades.specs.Filed.{Numbered, yes_no_number, stage_set_number};
 ghost use Rattle.std.proofs.Common.{rules};
 ghost use Rattle.grades.specs.Stages.{same_bits};
 
@@ -25,7 +25,7 @@ pub trait FiledGrade: Grade {
 
 /// No is 0 and yes is 1.
 impl FiledGrade for bool {
-    ghost number = { λ x. (if x then 1 else 0) };
+    ghost number = { yes_no_number };
 
     ghost numbered = { Prim.search rules };
 
@@ -44,7 +44,7 @@ impl FiledGrade for bool {
 
 /// A stage set is its bits.
 impl FiledGrade for StageSet {
-    ghost number = { λ x. x.stages };
+    ghost number = { stage_set_number };
 
     ghost numbered = { record { fits = λ x. x.fits; apart = same_bits } };
 
