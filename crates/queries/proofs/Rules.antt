@@ -7,7 +7,7 @@ use Rattle.queries.specs.declared.refusal.QueryRefusal.TheVariants.{Sizes, BadBl
 use Rattle.queries.specs.declared.rows.TermRow.{TermRow}
 use Rattle.queries.specs.declared.term.Term.{Term}
 use Rattle.queries.specs.declared.term.Term.TheVariants.{Lowest}
-use Rattle.queries.specs.Admission.{Stands, Fits, Framed, FineBefore, Admissible, RefusedFor}
+use Rattle.queries.specs.Admission.{Stands, Fits, Framed, FineBefore, Admissible, Breaks}
 use Rattle.queries.specs.Checks.{standing, reading_up_to, TurnsBefore, FirstFaulty}
 use Rattle.queries.specs.Rows.{Rows, term_in, told}
 use Rattle.queries.specs.Table.{Reads, term_at, block_of, NoLaterBlock, TurnEarlier}
@@ -68,7 +68,7 @@ module _ (r : Rows) (framed : Framed r) where
   fine : (i : ℕ) → i < length r.terms → ((k : ℕ) → k < i → Fits r k) → FineBefore r i
   fine i there before = record { framed = framed; term = there; before = before }
 
-  pub refused : (e : QueryRefusal) → FirstFaulty r e → RefusedFor r e
+  pub refused : (e : QueryRefusal) → FirstFaulty r e → Breaks r e
   refused Sizes first = absurd first.faulty
   refused (BadBlock b) first = absurd first.faulty
   refused BlockSum first = absurd first.faulty
@@ -84,6 +84,6 @@ module _ (r : Rows) (framed : Framed r) where
   refused NoMemory first = absurd first.faulty
 
   -- what the terms of such a table show
-  pub checked : (result : Result (Unit {0}) QueryRefusal) → MatchResult result (λ _. (i : ℕ) → i < length r.terms → Fits r i) (λ e. FirstFaulty r e) → MatchResult result (λ _. Admissible r) (λ e. RefusedFor r e)
+  pub checked : (result : Result (Unit {0}) QueryRefusal) → MatchResult result (λ _. (i : ℕ) → i < length r.terms → Fits r i) (λ e. FirstFaulty r e) → MatchResult result (λ _. Admissible r) (Breaks r)
   checked (Ok _) h = record { framed = framed; terms = h }
   checked (Err e) h = refused e h

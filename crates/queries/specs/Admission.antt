@@ -46,12 +46,17 @@ pub record Admissible (r : Rows) : Type 0 where
   pub framed : Framed r
   pub terms : (i : ℕ) → i < length r.terms → Fits r i
 
--- why a table is refused: the first cause in order
+-- the first rule, in order, that a table breaks
+abbrev pub Breaks : Rows → QueryRefusal → Type 0
+Breaks r Sizes = SizesFit r → ⊥
+Breaks r (BadBlock b) = SizesFit r × (b < length r.blocks) × (BlockFits r b → ⊥) × ((k : ℕ) → k < b → BlockFits r k)
+Breaks r BlockSum = SizesFit r × ((b : ℕ) → b < length r.blocks → BlockFits r b) × (BlocksAddUp r → ⊥)
+Breaks r (BadTerm i) = FineBefore r i × (Stands r i → ⊥)
+Breaks r (LaterBlock i) = FineBefore r i × Stands r i × (NoLaterBlock (told r) i → ⊥)
+Breaks r (OwnTurn i) = FineBefore r i × Stands r i × NoLaterBlock (told r) i × (TurnEarlier (told r) i → ⊥)
+Breaks r NoMemory = ⊥
+
+-- why a table is refused: the first rule that it breaks, or want of memory where it breaks none
 abbrev pub RefusedFor : Rows → QueryRefusal → Type 0
-RefusedFor r Sizes = SizesFit r → ⊥
-RefusedFor r (BadBlock b) = SizesFit r × (b < length r.blocks) × (BlockFits r b → ⊥) × ((k : ℕ) → k < b → BlockFits r k)
-RefusedFor r BlockSum = SizesFit r × ((b : ℕ) → b < length r.blocks → BlockFits r b) × (BlocksAddUp r → ⊥)
-RefusedFor r (BadTerm i) = FineBefore r i × (Stands r i → ⊥)
-RefusedFor r (LaterBlock i) = FineBefore r i × Stands r i × (NoLaterBlock (told r) i → ⊥)
-RefusedFor r (OwnTurn i) = FineBefore r i × Stands r i × NoLaterBlock (told r) i × (TurnEarlier (told r) i → ⊥)
 RefusedFor r NoMemory = Admissible r
+RefusedFor r why = Breaks r why

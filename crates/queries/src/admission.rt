@@ -1,6 +1,6 @@
 //! Admission: whether a table keeps every rule.
 ghost use Rattle.std.specs.Prelude.{◌≡◌, ℕ, ◌-◌, ◌^◌, ◌<◌, ◌↔◌, min, length, IsTrue, MatchOption, MatchResult};
-ghost use Rattle.queries.specs.Admission.{BlockFits, Framed, Admissible, Fits, RefusedFor};
+ghost use Rattle.queries.specs.Admission.{BlockFits, Framed, Admissible, Fits, Breaks};
 ghost use Rattle.queries.specs.Checks.{standing, reading_up_to, TurnsBefore, Faulty, FirstFaulty};
 ghost use Rattle.queries.specs.Rows.{rows_of, told};
 ghost use Rattle.queries.specs.Table.{total, block_of};
@@ -103,7 +103,7 @@ impl QueryTable<'_> {
 
     /// Whether the sizes and the blocks are as they should be, and the first cause where not.
     fn check_frame(self) -> Result<(), QueryRefusal>
-        ensures { MatchResult result (λ _. Framed (rows_of self.entry)) (λ e. RefusedFor (rows_of self.entry) e) }
+        ensures { MatchResult result (λ _. Framed (rows_of self.entry)) (Breaks (rows_of self.entry)) }
     {
         if self.tags > MOST_TAGS || self.terms.is_empty() || self.terms.len() > MOST_TERMS {
             return Err(QueryRefusal::Sizes);
@@ -117,9 +117,9 @@ impl QueryTable<'_> {
         Ok(())
     }
 
-    /// Whether the table keeps every rule, and the first cause to refuse it where not.
-    pub(crate) fn check(self) -> Result<(), QueryRefusal>
-        ensures { MatchResult result (λ _. Admissible (rows_of self.entry)) (λ e. RefusedFor (rows_of self.entry) e) }
+    /// Whether the table keeps every rule, and the first that it breaks where not. It asks for no memory.
+    pub fn check(self) -> Result<(), QueryRefusal>
+        ensures { MatchResult result (λ _. Admissible (rows_of self.entry)) (Breaks (rows_of self.entry)) }
     {
         self.check_frame()?;
         self.check_terms()

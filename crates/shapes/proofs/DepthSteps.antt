@@ -6,7 +6,7 @@ use Rattle.std.proofs.lemmas.Option.{none-some}
 use Rattle.std.proofs.lemmas.Bool.{cases_eq, cases_lt}
 use Rattle.shapes.specs.declared.depth.node.DepthNode.{DepthNode}
 use Rattle.shapes.specs.Tree.{Iff}
-use Rattle.shapes.specs.Depths.{depth_at, LawfulDepths, NextSibling}
+use Rattle.shapes.specs.Depths.{depth_at, KeepsRule, LawfulDepths, NextSibling}
 use Rattle.shapes.specs.DepthTables.{Latest, AllLatest, no_node, node_at}
 
 -- a node has one next sibling and one previous one at most
@@ -24,12 +24,12 @@ previous_once ds x w y s t =
       | inr h ↦ h
     ]
 
--- a node is at most as deep as its number
-pub depth_bound : (ds : List ℕ) → LawfulDepths ds → (x : ℕ) → x < length ds → depth_at ds x ≤ x
-depth_bound ds l zero h = omega (arith, (l 0 h).root refl)
-depth_bound ds l (suc x) h =
+-- a node is at most as deep as its number, where it keeps the rule and all before it do
+pub depth_bound : (ds : List ℕ) (x : ℕ) → ((y : ℕ) → y ≤ x → KeepsRule ds y) → depth_at ds x ≤ x
+depth_bound ds zero keep = omega (arith, (keep 0 (omega arith)).root refl)
+depth_bound ds (suc x) keep =
     let e : suc x - 1 ≡ x = omega arith in
-    omega (arith, (l (suc x) h).rises (omega arith), ap (depth_at ds) e, depth_bound ds l x (omega arith))
+    omega (arith, (keep (suc x) (omega arith)).rises (omega arith), ap (depth_at ds) e, depth_bound ds x (λ y le. keep y (omega arith)))
 
 -- the latest nodes once node x is noted
 latest_noted : (ds : List ℕ) → LawfulDepths ds → (x d : ℕ) (table : List ℕ) → x < length ds → d ≡ depth_at ds x → d < length table → AllLatest ds x table → AllLatest ds (x + 1) (slice_set table d x)

@@ -11,7 +11,7 @@ use Rattle.shapes.specs.Trees.{child_first}
 use Rattle.shapes.specs.MirrorLaws.{last_of, to_eldest, mirror_means, mirror_laws}
 
 -- options with the same answers
-same_answers : (o o' : Option ℕ) → ((y : ℕ) → Iff (o ≡ Some y) (o' ≡ Some y)) → o ≡ o'
+pub same_answers : (o o' : Option ℕ) → ((y : ℕ) → Iff (o ≡ Some y) (o' ≡ Some y)) → o ≡ o'
 same_answers o None h = absent o (λ w. not_both None w.0 refl ((h w.0).0 w.1))
 same_answers o (Some y) h = (h y).1 refl
 

@@ -108,7 +108,7 @@ seek_previous ds l y (suc k) hy hk one le h =
 pub previous_found : (ds : List ℕ) → LawfulDepths ds → (y : ℕ) → 0 < y → y < length ds → depth_at ds y ≤ depth_at ds (y - 1) → (p : ℕ) × NextSibling ds p y
 previous_found ds l y pos hy le = seek_previous ds l y (y - 1) hy (omega arith) ((l y hy).other pos) le (λ j a b. absurd (omega arith))
 
-neighbour_node : (ds : List ℕ) (a : Axis) (x y : ℕ) → Neighbour ds a x y → (x < length ds) × (y < length ds)
+pub neighbour_node : (ds : List ℕ) (a : Axis) (x y : ℕ) → Neighbour ds a x y → (x < length ds) × (y < length ds)
 neighbour_node ds First x y c = (omega (arith, c.after, c.node), c.node)
 neighbour_node ds Next x y s = (omega (arith, s.later, s.node), s.node)
 neighbour_node ds Owner x y c = (c.node, omega (arith, c.after, c.node))

@@ -5,6 +5,7 @@ ghost use Rattle.shapes.specs.Tree.{Countable};
 ghost use Rattle.std.specs.Prelude.{length};
 
 use node::DepthNode;
+pub use rule::first_fault;
 
 mod fill;
 mod neighbours;

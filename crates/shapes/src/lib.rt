@@ -4,7 +4,7 @@
 pub mod address;
 pub mod axis;
 mod certified;
-mod count;
+pub mod count;
 pub mod depth;
 mod levels;
 pub mod linked;

@@ -15,8 +15,8 @@ fn keeps_rule(depths: &[u16], node: usize) -> bool
     }
 }
 
-/// The first node whose depth breaks the rule.
-pub(super) fn first_fault(depths: &[u16]) -> Option<usize>
+/// The first node whose depth breaks the rule. Unlike a filling it takes no memory, and any number of depths.
+pub fn first_fault(depths: &[u16]) -> Option<usize>
     ensures { MatchOption result (LawfulDepths depths.now) (FirstFault depths.now) }
 {
     (0..depths.len()).find(|node| !keeps_rule(depths, *node))

@@ -3,4 +3,4 @@ use Rattle.shapes.proofs.DepthSteps.{depth_bound}
 use Rattle.shapes.proofs.depth.siblings.previous_sibling.Goals as goal
 
 pub bounds-latest-depths : goal.bounds-latest-depths
-bounds-latest-depths c = omega (arith, depth_bound c.args.depths.now c.requires.lawful c.args.node c.requires.inside, c.requires.room)
+bounds-latest-depths c = omega (arith, depth_bound c.args.depths.now c.args.node (λ y le. c.requires.lawful y (omega arith)), c.requires.room)
