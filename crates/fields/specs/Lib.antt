@@ -1,0 +1,4 @@
+pub mod Fields
+pub mod Putting
+pub mod Taking
+pub mod Theorems
