@@ -1,7 +1,19 @@
-//! Text that models are kept in: number fields and lines.
+//! Survey files: a model, a query and marks as text, and the listing of a row.
 #![tactic(auto)]
 
-pub mod depths;
-pub mod field;
-#[cfg(test)]
-mod tests;
+mod causes;
+mod contents;
+mod depths;
+pub mod fault;
+mod head;
+mod line;
+mod listing;
+mod model;
+pub mod model_answers;
+mod numbering;
+mod output;
+mod rows;
+mod settle;
+pub mod survey_file;
+pub mod tables;
+pub mod theorems;

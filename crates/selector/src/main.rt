@@ -1,52 +1,57 @@
-//! The junction selector: a model of depths on standard input, its neighbours on standard output.
+//! The junction selector: a survey file in, its listing out.
 #![tactic(auto)]
 
 mod audit;
-mod fault;
-mod listing;
 mod sample;
 
 use anyhow::anyhow;
-use fault::ModelFault;
-use files::depths::read_depths;
-use listing::print_neighbours;
+use files::fault::FileRefusal;
+use files::survey_file::{FAULT_SIZE, OUTPUT_ROOM, list_file};
+use files::tables::{FileTables, Room};
 use sample::print_sample;
-use shapes::depth::DepthShape;
-use shapes::mirrored::Mirrored;
-use shapes::refusal::ShapeRefusal;
 use std::alloc::Global;
-use std::io::Read;
+use std::io::{Read, Write};
+use std::{env, fs, io};
+
+const ROOM: Room = Room {
+    marks: 4_096,
+    values: 16_384,
+    waiting: 16_384,
+};
+
+const USAGE: &str = "usage: selector [FILE | --sample]";
 
 fn main(rt: HostRuntime) -> anyhow::Result<()> {
-    let mut text = Vec::new(rt.alloc());
-    rt.stdin().read_to_end(&mut text)?;
-    match shape_of(rt.alloc(), &text) {
-        Ok(shape) => print_model(&rt, rt.alloc(), shape),
-        Err(fault) => {
-            println!(rt; "{fault}")?;
-            Err(anyhow!("the model was refused"))
+    let mut arguments = env::args(&rt)?.skip(1);
+    let name = arguments.next();
+    if arguments.next().is_some() {
+        return Err(anyhow!("{USAGE}"));
+    }
+    match name {
+        Some(name) if name.as_str() == "--sample" => print_sample(&rt, rt.alloc()),
+        Some(name) if name.as_str().starts_with('-') => Err(anyhow!("{USAGE}")),
+        Some(name) => print_listing(&rt, rt.alloc(), &fs::read(&rt, name.as_str())?),
+        None => {
+            let mut file = Vec::new(rt.alloc());
+            rt.stdin().read_to_end(&mut file)?;
+            print_listing(&rt, rt.alloc(), &file)
         }
     }
 }
 
-/// The shape of a model that is kept as a list of depths.
-fn shape_of(heap: Global, text: &[u8]) -> Result<DepthShape, ModelFault> {
-    let depths = read_depths(heap, text).map_err(ModelFault::Text)?;
-    filled(heap, &depths).map_err(|why| ModelFault::Shape {
-        nodes: depths.len(),
-        why,
-    })
-}
-
-fn filled(heap: Global, depths: &[u16]) -> Result<DepthShape, ShapeRefusal> {
-    let mut shape = DepthShape::new(heap)?;
-    shape.fill(heap, depths)?;
-    Ok(shape)
-}
-
-fn print_model(rt: &impl Print, heap: Global, shape: DepthShape) -> anyhow::Result<()> {
-    let mirrored = Mirrored::over(shape);
-    let nodes = print_neighbours(rt, &mirrored)?;
-    println!(rt; "{nodes} nodes read: a lawful shape")?;
-    print_sample(rt, heap, mirrored.inner())
+/// Prints the listing of a survey file, or the line of its refusal.
+fn print_listing(rt: &impl Print, heap: Global, file: &[u8]) -> anyhow::Result<()> {
+    let mut tables = FileTables::with_room(heap, ROOM)?;
+    let mut output = vec![in heap; 0u8; OUTPUT_ROOM]?;
+    let listed = list_file(heap, file, &mut tables, &mut output);
+    output.truncate(match listed {
+        Ok(size) => size,
+        Err(FileRefusal::Fault(_)) => FAULT_SIZE,
+        Err(_) => 0,
+    });
+    io::writer(rt).write_all(&output)?;
+    match listed {
+        Ok(_) => Ok(()),
+        Err(why) => Err(anyhow!("{why}")),
+    }
 }

@@ -5,6 +5,7 @@ use queries::query::Query;
 use queries::refusal::QueryRefusal;
 use queries::rows::{BlockRow, QueryTable, TermRow};
 use shapes::depth::DepthShape;
+use shapes::refusal::ShapeRefusal;
 use std::alloc::Global;
 
 /// Some lane from here to the right has the mark: a mark here, or the same at the next lane.
@@ -37,19 +38,19 @@ fn admitted(heap: Global) -> Result<Query, QueryRefusal> {
     Ok(query)
 }
 
-/// Admits the sample, prints its definitions and what admission answered, and audits the model with it.
-pub fn print_sample(rt: &impl Print, heap: Global, shape: &DepthShape) -> anyhow::Result<()> {
-    match admitted(heap) {
-        Ok(query) => {
-            print_query(rt, &query)?;
-            print_audit(rt, heap, shape, &query)
-        }
-        Err(refusal) => {
-            let number = refusal.number();
-            println!(rt; "the query was refused {number}")?;
-            Ok(())
-        }
-    }
+/// The shape of the sample: a junction with two approaches, of three lanes and of two.
+fn junction(heap: Global) -> Result<DepthShape, ShapeRefusal> {
+    let mut shape = DepthShape::new(heap)?;
+    shape.fill(heap, &[0, 1, 2, 2, 2, 1, 2, 2])?;
+    Ok(shape)
+}
+
+/// Prints the definitions of the sample, and audits a junction with it.
+pub fn print_sample(rt: &impl Print, heap: Global) -> anyhow::Result<()> {
+    let shape = junction(heap)?;
+    let query = admitted(heap)?;
+    print_query(rt, &query)?;
+    print_audit(rt, heap, &shape, &query)
 }
 
 fn print_query(rt: &impl Print, query: &Query) -> anyhow::Result<()> {

@@ -8,7 +8,7 @@ use Rattle.queries.specs.Table.{Table, Admitted, Reads, Reaches, by_turn, by_mee
 use Rattle.surveys.proofs.Decisions.{both, either, iff}
 
 -- some number below n
-some_below : (P : ℕ → Type 0) → ((i : ℕ) → Dec (P i)) → (n : ℕ) → Dec ((i : ℕ) × ((i < n) × P i))
+pub some_below : (P : ℕ → Type 0) → ((i : ℕ) → Dec (P i)) → (n : ℕ) → Dec ((i : ℕ) × ((i < n) × P i))
 some_below P d zero = no (λ h. let l = h.1.0 in omega arith)
 some_below P d (suc n) = elim (d n) [
   | yes p ↦ yes (n, (omega arith, p))

@@ -1,0 +1,10 @@
+use Rattle.std.proofs.Common.{refl, rules}
+use Rattle.files.specs.Rows.{node_form}
+use Rattle.files.proofs.Forms.{no_columns, no_end}
+use Rattle.files.proofs.rows.NodeRowRow.take.Goals as goal
+
+pub returns-in_err-depth : goal.returns-in_err-depth
+returns-in_err-depth c = no_columns node_form (λ _. refl) c.from_residual.result c.in_err-depth.field-0.0 c.from_residual.ensures.1 c.in_err-depth.ensures
+
+pub returns-in_err-rest : goal.returns-in_err-rest
+returns-in_err-rest c = no_end node_form (λ _. refl) c.in_ok-depth.field-0-0 c.from_residual-in_err-rest.result c.in_err-rest.field-0.0 c.from_residual-in_err-rest.ensures.1 (search rules) c.in_ok-depth.ensures (λ _. c.in_err-rest.ensures.0, c.in_err-rest.ensures.1)

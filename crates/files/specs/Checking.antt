@@ -1,0 +1,48 @@
+-- What is known of a file once it is checked up to a line.
+use Rattle.std.specs.Prelude.{ℕ, ◌+◌, ◌^◌, ◌<◌, ◌≤◌, List, Result, MatchResult}
+use Rattle.shapes.specs.Tree.{Countable}
+use Rattle.files.specs.declared.fault.LineFault.{LineFault}
+use Rattle.files.specs.declared.head.Head.{Head}
+use Rattle.files.specs.declared.rows.MarkRow.{MarkRow}
+use Rattle.files.specs.declared.tables.Room.{Room}
+use Rattle.files.specs.Causes.{Cause, FirstCause, HasRoom, HeadFits, IsGradeNumber, MarkStands, Sooner}
+use Rattle.files.specs.Contents.{Contents, InOrder, lines_of}
+use Rattle.files.specs.Faults.{number_of_cause}
+
+-- nothing is wrong with the first line
+pub record HeadStands (room : Room) (h : Head) : Type 0 where
+  pub countable : Countable h.nodes
+  pub fits : HeadFits h
+  pub has_room : HasRoom room h
+
+-- what can be wrong with it, by number
+pub data HeadCause (room : Room) (h : Head) : ℕ → Type 0 where
+  no_shape : (Countable h.nodes → ⊥) → HeadCause room h 1
+  no_query : (HeadFits h → ⊥) → HeadCause room h 3
+  too_short : (HasRoom room h → ⊥) → HeadCause room h 7
+
+-- nothing is wrong with the line of a mark
+pub record MarkFits (h : Head) (m : MarkRow) : Type 0 where
+  pub grade : IsGradeNumber h.grades m.grade
+  pub stands : MarkStands h m
+
+-- what can be wrong with it, by number
+pub data MarkCause (h : Head) (m : MarkRow) : ℕ → Type 0 where
+  no_grade : (IsGradeNumber h.grades m.grade → ⊥) → MarkCause h m 12
+  missing_mark : (MarkStands h m → ⊥) → MarkCause h m 8
+
+-- the first of the causes on a line
+pub record FirstOn (P : ℕ → Type 0) (number : ℕ) : Type 0 where
+  pub is : P number
+  pub first : (n : ℕ) → P n → Sooner number n
+
+-- the head stands, and every cause is on this line or on a later one
+pub record CheckedTo (room : Room) (c : Contents) (line : ℕ) : Type 0 where
+  pub in_order : InOrder c
+  pub few : lines_of c + 1 < 2 ^ 64
+  pub head : HeadStands room c.head
+  pub causes : (rest : List ℕ) (n l : ℕ) → Cause room c rest n l → line ≤ l
+
+-- the file is checked up to a line; or the first cause was found, whatever stands behind what was read
+abbrev pub Checks : Room → Contents → ℕ → Result (Unit {0}) LineFault → Type 0
+Checks room c line r = MatchResult r (λ _. CheckedTo room c line) (λ f. (rest : List ℕ) → FirstCause room c rest (number_of_cause f.cause) f.line)
