@@ -3,10 +3,9 @@ use Rattle.std.proofs.Common.{◌≡◌, ℕ, ◌≤◌, List, [], ◌++◌, len
 use Rattle.files.specs.declared.fault.LineCause.{LineCause}
 use Rattle.files.specs.declared.rows.AskedRow.{AskedRow}
 use Rattle.files.specs.Contents.{Contents, Fitting, InOrder, Next, NodesThere, BlocksThere, TermsThere, asked_text, text_of, node, block, term, mark, asked}
-use Rattle.files.specs.Lines.{AllFit, RowFits, row_text, rows_text}
+use Rattle.files.specs.Lines.{AllFit, RowFits, row_text, rows_text, NoRow}
 use Rattle.files.specs.Reading.{ReadTo, Stopped}
 use Rattle.files.specs.Rows.{head_form, node_form, block_form, term_form, mark_form, asked_form}
-use Rattle.files.specs.Taking.{NoRow}
 use Rattle.files.specs.TakingRows.{TakesRows}
 use Rattle.files.proofs.RowSections.{Section, all_fit, no_more_than, none_left, all_there, next, either, in_front}
 

@@ -7,7 +7,8 @@ use Rattle.files.specs.declared.head.GradeKind.{GradeKind}
 use Rattle.files.specs.declared.head.GradeKind.TheVariants.{YesNo, StageSets}
 use Rattle.files.specs.declared.tables.FileTables.{FileTables}
 use Rattle.files.specs.Contents.{Contents}
-use Rattle.files.specs.Files.{FileAnswers, Listed, Lists, ListsByKind, Refuses, SettledByKind, Writes}
+use Rattle.files.specs.Files.{FileAnswers, Listed, Lists, ListsByKind, Refuses, SettledByKind}
+use Rattle.files.specs.Listings.{Writes}
 use Rattle.files.specs.Outcomes.{CallsAgree, OneOutcomeOf, SameAnswer}
 use Rattle.files.specs.Tables.{room_in}
 use Rattle.files.proofs.OneOutcomes.{one_outcome_lem}

@@ -1,7 +1,8 @@
--- Depths and capped depths keep the rule of depths at the same nodes, up to the first fault.
-use Rattle.std.proofs.Common.{◌≡◌, ℕ, ◌-◌, ◌<◌, ◌≤◌, List, length, map, arith}
-use Rattle.std.proofs.lemmas.List.{get_or-map}
-use Rattle.shapes.specs.Depths.{KeepsRule, depth_at}
+-- Depths and capped depths keep the rule of depths at the same nodes, up to the first fault; lawful depths are small, so that 16 bits hold them.
+use Rattle.std.proofs.Common.{◌≡◌, ℕ, ◌-◌, ◌<◌, ◌≤◌, List, length, map, refl, arith}
+use Rattle.std.proofs.lemmas.Grind.{same_number_lists}
+use Rattle.std.proofs.lemmas.List.{length-map, get_or-map}
+use Rattle.shapes.specs.Depths.{KeepsRule, LawfulDepths, depth_at}
 use Rattle.shapes.proofs.DepthSteps.{depth_bound}
 use Rattle.files.specs.Reading.{capped}
 
@@ -34,3 +35,9 @@ module _ (ds : List ℕ) (few : length ds ≤ 2048) where
         other = λ p. omega (arith, k.other p);
         rises = λ p. omega (arith, k.rises p, same (x - 1) (omega arith) (λ y le. keep y (omega arith)));
       }
+
+  pub capped_same : LawfulDepths ds → cs ≡ ds
+  capped_same lawful = same_number_lists cs ds (rw length-map refl) small
+    where
+      small : (x : ℕ) → x < length cs → depth_at cs x ≡ depth_at ds x
+      small x l = let here : x < length ds = rw length-map at l in omega (arith, at x here, depth_bound ds x (λ y le. lawful y (omega arith)))

@@ -12,8 +12,8 @@ use Rattle.files.specs.declared.head.GradeKind.TheVariants.{YesNo, StageSets}
 use Rattle.files.specs.declared.tables.FileTables.{FileTables}
 use Rattle.files.specs.declared.tables.Room.{Room}
 use Rattle.files.specs.Contents.{Contents}
+use Rattle.files.specs.CallSteps.{RowListed}
 use Rattle.files.specs.Files.{FileAnswers, Lawful, Listed, Refuses, SettledByKind, output_room}
-use Rattle.files.specs.Listing.{RowListed}
 use Rattle.files.specs.Tables.{AllCleared, SameRooms, cleared, room_in, room_of}
 
 cleared_room : {G : Type 0} (k : Kind G) (room : Room) → room_of (cleared k room) ≡ room

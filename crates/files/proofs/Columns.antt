@@ -5,7 +5,7 @@ use Rattle.std.specs.List.{flat_map, AllByRecursion}
 use Rattle.fields.proofs.Columns.{length_field}
 use Rattle.fields.specs.Fields.{field}
 use Rattle.fields.specs.Putting.{Fits, Puts}
-use Rattle.files.specs.Lines.{Column, ColumnsFit, columns_text, line_length, line_text, widths}
+use Rattle.files.specs.Lines.{Column, ColumnsFit, IsWidth, columns_text, line_length, line_text, widths}
 
 all_at : {X : Type 0} (P : X → Type 0) (xs : List X) (i : ℕ) (d : X) → i < length xs → AllByRecursion P xs → P (get_or xs i d)
 all_at P [] i d within all = absurd (omega arith)
@@ -18,7 +18,7 @@ part_length f [] i d within = absurd (omega arith)
 part_length f (x ∷ xs) zero d within = omega (arith, length-append (f x) (flat_map f xs))
 part_length f (x ∷ xs) (suc i) d within = omega (arith, length-append (f x) (flat_map f xs), length-append (f x) (flat_map f (take i xs)), part_length f xs i d (omega arith))
 
-length_columns : (columns : List Column) → ColumnsFit columns → length (columns_text columns) ≡ widths columns
+pub length_columns : (columns : List Column) → ColumnsFit columns → length (columns_text columns) ≡ widths columns
 length_columns [] fit = refl
 length_columns (c ∷ cs) fit = omega (arith, length-append (field c.width c.number) (columns_text cs), length_columns cs (fit.0.1, fit.1.1), length_field c.width c.number fit.1.0.0 fit.0.0 fit.1.0.1)
 
@@ -33,8 +33,8 @@ module _ (columns : List Column) (i : ℕ) (d : Column) (within : i < length col
   abbrev column : Column
   column = get_or columns i d
 
-  one_to_ten : (0 < column.width) × (column.width ≤ 10)
-  one_to_ten = all_at (λ c. (0 < c.width) × (c.width ≤ 10)) columns i d within fit.1
+  one_to_ten : IsWidth column.width
+  one_to_ten = all_at (λ c. IsWidth c.width) columns i d within fit.1
 
   pub column_fits : Fits column.width column.number
   column_fits = (one_to_ten.0, all_at (λ c. c.number < 10 ^ c.width) columns i d within fit.0)

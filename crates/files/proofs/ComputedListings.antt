@@ -1,24 +1,26 @@
 -- The listing of a file whose survey settles as computed.
-use Rattle.std.proofs.Common.{◌≡◌, ℕ, Bool, true, not, Decides, ◌≢◌, List, [], ◌∷◌, ◌++◌, length, filter, sym, refl, ap, ◌∙◌, subst, ap₂}
+use Rattle.std.proofs.Common.{◌≡◌, ℕ, Bool, true, not, Decides, ◌≢◌, List, [], ◌∷◌, ◌++◌, length, filter, refl, ap, subst, ap₂}
 use Rattle.std.specs.Prelude.{◌==◌}
 use Rattle.std.specs.List.{AllByRecursion, range_with_len, flat_map}
-use Rattle.std.proofs.lemmas.Bool.{true≢false, false_from_ne_true, eqb-true, eq-eqb}
+use Rattle.std.proofs.lemmas.Bool.{eqb-true, eq-eqb}
+use Rattle.std.proofs.lemmas.Bool.Decides.{Decides-not}
 use Rattle.grades.specs.Filed.{Numbered}
 use Rattle.grades.specs.Kind.{Laws as KindLaws}
 use Rattle.shapes.specs.Tree.{Tree, Laws as TreeLaws}
 use Rattle.queries.specs.Rows.{told}
 use Rattle.queries.specs.Table.{Table, Admitted}
-use Rattle.queries.proofs.Readers.{kept_only, kept_all, kept_rises}
 use Rattle.surveys.specs.Promise.{opening}
 use Rattle.surveys.specs.Rules.{Opening, State}
 use Rattle.files.specs.declared.rows.MarkRow.{MarkRow}
 use Rattle.files.specs.Causes.{rows_in}
 use Rattle.files.specs.Contents.{Contents}
-use Rattle.files.specs.Files.{TreeOf, ListsFor}
-use Rattle.files.specs.Settling.{Filed, Solved, ListsBelow, listing, selected_line, answer_line, end_line}
+use Rattle.files.specs.Files.{ListsFor, TreeOf}
+use Rattle.files.specs.Listings.{Filed, ListsBelow, answer_line, end_line, listing, selected_line}
+use Rattle.files.specs.Settling.{Solved}
 use Rattle.files.proofs.ComputedSteps.{settles_in, settles, state_of, after, fresh}
 use Rattle.files.proofs.ComputedMarks.{last_grade, last_numbered}
-use Rattle.files.proofs.Settled.{solution}
+use Rattle.files.proofs.Selecting.{lists_filtered}
+use Rattle.files.proofs.Settled.{solved}
 
 -- a kind that keeps its laws and whose grades are told by their numbers, and a grade for each number, of another than a grade's some grade
 pub record Graded (G : Type 0) : Type 0 where
@@ -63,11 +65,7 @@ module _ {G : Type 0} (g : Graded G) where
   same_decides x y = (λ e. g.numbered.apart x y (eqb-true (k.number x) (k.number y) e), λ e. eq-eqb (k.number x) (k.number y) (ap k.number e))
 
   lists_above : (nodes : ℕ) (row : ℕ → G) → ListsBelow nodes (λ x. row x ≢ k.kind.lowest) (selected k nodes row)
-  lists_above nodes row = record {
-    rising = kept_rises (above_lowest k row) nodes;
-    only = λ x h. let p = kept_only (above_lowest k row) nodes x h in (p.0, λ e. true≢false (sym p.1 ∙ ap not ((same_decides (row x) k.kind.lowest).1 e)));
-    all = λ x less n. kept_all (above_lowest k row) nodes x less (ap not (false_from_ne_true (same_grade k (row x) k.kind.lowest) (λ e. n ((same_decides (row x) k.kind.lowest).0 e))));
-  }
+  lists_above nodes row = lists_filtered (λ x. row x ≢ k.kind.lowest) (above_lowest k row) (λ x. Decides-not (same_grade k (row x) k.kind.lowest) (same_decides (row x) k.kind.lowest)) nodes
 
   module _ (c : Contents) (t : Tree) (laws : TreeLaws t) (tree_of : TreeOf c c.head.hand t) (admitted : Admitted (told (rows_in c))) (asked steps : ℕ) (numbers : ℕ → ℕ) (xs : List ℕ) (computed : Computed k g.grade c t asked steps numbers xs) where
     abbrev o : Opening G
@@ -76,26 +74,18 @@ module _ {G : Type 0} (g : Graded G) where
     abbrev s : State G
     s = state_of o (after (same_grade k) o steps fresh)
 
-    solved : Solved k t (told (rows_in c)) c.marks
-    solved =
-        let there = settles (same_grade k) same_decides o laws steps computed.settles in
-        record {
-          marks = o.marks;
-          marked = last_numbered k.number g.grade k.kind.lowest c.marks computed.marks;
-          steps = steps;
-          state = s;
-          settles = there;
-          solution = solution (record { kind = g.laws; tree = laws; admitted = admitted }) there;
-        }
+    abbrev solution : Solved k t (told (rows_in c)) c.marks
+    solution =
+        solved k o.marks (last_numbered k.number g.grade k.kind.lowest c.marks computed.marks) (record { kind = g.laws; tree = laws; admitted = admitted })
+        steps s (settles (same_grade k) same_decides o laws steps computed.settles)
 
     pub lists_for : ListsFor k c asked (listing t.count steps numbers xs)
-    unfolding solved
     lists_for = (
       t,
       (
         tree_of,
         (
-          solved,
+          solution,
           record {
             selected = xs;
             lists = subst (ListsBelow t.count (λ x. s.values asked x ≢ k.kind.lowest)) computed.selects (lists_above t.count (s.values asked));

@@ -1,9 +1,7 @@
 -- Every file is refused for a cause or lists a text.
-use Rattle.std.proofs.Common.{◌≡◌, ℕ, zero, suc, ◌<◌, ◌≤◌, Bool, true, false, ◌⊎◌, List, length, Some, None, Option, ◌≢◌, refl, subst, inl, inr, arith}
+use Rattle.std.proofs.Common.{◌≡◌, ℕ, ◌<◌, ◌≤◌, ◌⊎◌, List, length, Some, None, Option, ◌≢◌, refl, subst, inl, inr}
 use Rattle.std.proofs.ByRecursion.{All-from_get_or}
 use Rattle.std.proofs.lemmas.Bool.{cases_lt}
-use Rattle.grades.specs.declared.stage_set.StageSet.{StageSet}
-use Rattle.grades.specs.Filed.{yes_no_number, stage_set_number}
 use Rattle.grades.specs.Kind.{Laws as KindLaws}
 use Rattle.grades.specs.Stages.{stage_set_laws}
 use Rattle.grades.specs.YesNo.{yes_no_laws}
@@ -13,14 +11,16 @@ use Rattle.files.specs.declared.head.GradeKind.TheVariants.{YesNo, StageSets}
 use Rattle.files.specs.declared.rows.AskedRow.{AskedRow}
 use Rattle.files.specs.declared.tables.Room.{Room}
 use Rattle.files.specs.Causes.{IsGradeNumber, NoCause, mark_at, no_mark, rows_in}
-use Rattle.files.specs.Causes.Cause.{malformed, no_grade}
+use Rattle.files.specs.Causes.{malformed, no_grade}
+use Rattle.files.specs.Causes.Cause.{at_end, at_mark}
 use Rattle.files.specs.Contents.{Contents, Ended, Reads, TermsThere, lines_of}
 use Rattle.files.specs.Files.{Lawful, ListsByKind, ListsFor, NeedsMoreFor, NeedsMoreSteps, most_bytes}
+use Rattle.files.specs.Listings.{Filed}
 use Rattle.files.specs.Files.Refuses.{too_long, no_head, first_cause, too_many_steps}
 use Rattle.files.specs.Outcomes.{Answered, EveryFileAnswered}
-use Rattle.files.specs.Settling.{Filed}
 use Rattle.files.proofs.CauseFound.{first_cause?}
 use Rattle.files.proofs.LawfulContents.{admitted, tree_laws}
+use Rattle.files.proofs.Models.{yes_no_grades, stage_set_grades}
 use Rattle.files.proofs.OneOutcomes.{terms_there}
 use Rattle.files.proofs.RowsDecided.{head?}
 use Rattle.files.proofs.RulesDecided.{ended?, grade_number?}
@@ -28,14 +28,6 @@ use Rattle.files.proofs.Decided.{sure}
 use Rattle.files.proofs.SomeReading.{reading}
 use Rattle.files.proofs.SomeSettling.{AllGraded, settled_or_needs_more, some_listing}
 use Rattle.files.proofs.SomeTree.{some_tree}
-
-yes_no_graded : (n : ℕ) → IsGradeNumber YesNo n → (g : Bool) × (yes_no_number g ≡ n)
-yes_no_graded zero l = (false, refl)
-yes_no_graded (suc zero) l = (true, refl)
-yes_no_graded (suc (suc n)) l = absurd (omega arith)
-
-stage_set_graded : (n : ℕ) → IsGradeNumber StageSets n → (g : StageSet) × (stage_set_number g ≡ n)
-stage_set_graded n l = (record { stages = n; fits = l }, refl)
 
 some_asked : (a : Option AskedRow) → a ≢ None → (r : AskedRow) × (a ≡ Some r)
 some_asked None some = absurd (some refl)
@@ -46,7 +38,7 @@ module _ {rooms : GradeKind → Room} {file : List ℕ} {c : Contents} {asked : 
   there = terms_there w
 
   graded : (j : ℕ) → j < length c.marks → IsGradeNumber c.head.grades (mark_at c j).grade
-  graded j l = sure (grade_number? c.head.grades (mark_at c j).grade) (λ why. w.no_cause _ _ (no_grade j l why))
+  graded j l = sure (grade_number? c.head.grades (mark_at c j).grade) (λ why. w.no_cause _ _ (at_mark j 12 l (no_grade why)))
 
   settled_for : {G : Type 0} (k : Filed G) → KindLaws k.kind → AllGraded k.number c.marks → NeedsMoreFor k c ⊎ ((text : List ℕ) × ListsFor k c asked text)
   settled_for k laws all =
@@ -57,8 +49,8 @@ module _ {rooms : GradeKind → Room} {file : List ℕ} {c : Contents} {asked : 
       ]
 
   settled_by_kind : (g : GradeKind) → ((j : ℕ) → j < length c.marks → IsGradeNumber g (mark_at c j).grade) → NeedsMoreSteps g c ⊎ ((text : List ℕ) × ListsByKind g c asked text)
-  settled_by_kind YesNo is = settled_for _ yes_no_laws (All-from_get_or _ c.marks no_mark (λ j l. yes_no_graded _ (is j l)))
-  settled_by_kind StageSets is = settled_for _ stage_set_laws (All-from_get_or _ c.marks no_mark (λ j l. stage_set_graded _ (is j l)))
+  settled_by_kind YesNo is = settled_for _ yes_no_laws (All-from_get_or _ c.marks no_mark (λ j l. yes_no_grades _ (is j l)))
+  settled_by_kind StageSets is = settled_for _ stage_set_laws (All-from_get_or _ c.marks no_mark (λ j l. stage_set_grades _ (is j l)))
 
 module _ (rooms : GradeKind → Room) (file : List ℕ) where
   lawful_answered : (c : Contents) (asked : ℕ) → Lawful rooms file c asked → Answered rooms file
@@ -83,7 +75,7 @@ module _ (rooms : GradeKind → Room) (file : List ℕ) where
     reading_answered : (c : Contents) (rest : List ℕ) → Reads file c rest → Answered rooms file
     reading_answered c rest r = elim (first_cause? (rooms c.head.grades) c rest) [
       | inl f ↦ inl (f.0, (f.1.0, first_cause c rest f.0 f.1.0 short r f.1.1))
-      | inr none ↦ ended_answered c rest r none (sure (ended? c rest) (λ why. none _ _ (malformed why)))
+      | inr none ↦ ended_answered c rest r none (sure (ended? c rest) (λ why. none _ _ (at_end 12 (malformed why))))
     ]
 
     short_answered : Answered rooms file

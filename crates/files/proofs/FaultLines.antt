@@ -3,26 +3,20 @@ use Rattle.std.proofs.Common.{ℕ, ◌+◌, ◌≤◌, List, [], arith}
 use Rattle.files.specs.declared.head.GradeKind.{GradeKind}
 use Rattle.files.specs.declared.tables.Room.{Room}
 use Rattle.files.specs.Causes.{Cause}
-use Rattle.files.specs.Causes.Cause.{no_shape, no_query, too_short, depth, block, sum, term, later_block, own_turn, no_grade, missing_mark, missing_term, malformed}
+use Rattle.files.specs.Causes.Cause.{at_asked, at_block, at_end, at_head, at_mark, at_node, at_term}
 use Rattle.files.specs.Contents.{Contents, lines_of}
 use Rattle.files.specs.Files.{Refuses, most_bytes}
 use Rattle.files.specs.Files.Refuses.{too_long, no_head, first_cause, too_many_steps}
 use Rattle.files.proofs.Sizes.{lines_bounded}
 
 cause_line : (room : Room) (c : Contents) (rest : List ℕ) (n l : ℕ) → Cause room c rest n l → l ≤ lines_of c + 1
-cause_line room c rest n l (no_shape h) = omega arith
-cause_line room c rest n l (no_query h) = omega arith
-cause_line room c rest n l (too_short h) = omega arith
-cause_line room c rest n l (depth x at h) = omega arith
-cause_line room c rest n l (block b at h) = omega arith
-cause_line room c rest n l (sum there some h) = omega arith
-cause_line room c rest n l (term i at h) = omega arith
-cause_line room c rest n l (later_block i at h) = omega arith
-cause_line room c rest n l (own_turn i at h) = omega arith
-cause_line room c rest n l (no_grade j at h) = omega arith
-cause_line room c rest n l (missing_mark j at h) = omega arith
-cause_line room c rest n l (missing_term r e h) = omega arith
-cause_line room c rest n l (malformed h) = omega arith
+cause_line room c rest n l (at_head m h) = omega arith
+cause_line room c rest n l (at_node x m here h) = omega arith
+cause_line room c rest n l (at_block b m here h) = omega arith
+cause_line room c rest n l (at_term i m here h) = omega arith
+cause_line room c rest n l (at_mark j m here h) = omega arith
+cause_line room c rest n l (at_asked m h) = omega arith
+cause_line room c rest n l (at_end m h) = omega arith
 
 pub line_bounded : (rooms : GradeKind → Room) (file : List ℕ) (n l : ℕ) → Refuses rooms file n l → l ≤ most_bytes + 1
 line_bounded rooms file n l (too_long h) = omega arith

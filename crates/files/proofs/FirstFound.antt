@@ -1,11 +1,7 @@
 -- Of causes that are decided, the first is found, or there is none.
 use Rattle.std.proofs.Common.{◌≡◌, ℕ, zero, suc, ◌<◌, ◌⊎◌, refl, sym, ◌∙◌, subst, inl, inr, arith}
 use Rattle.std.proofs.lemmas.Bool.{cases_lt, cases_eq}
-use Rattle.files.specs.Causes.{Sooner}
-
--- on an earlier line, or on the same and sooner there
-abbrev pub Before : ℕ → ℕ → ℕ → ℕ → Type 0
-Before n l m k = (l < k) ⊎ ((l ≡ k) × Sooner n m)
+use Rattle.files.specs.Causes.{Before, Sooner}
 
 sooner_itself : (n : ℕ) → Sooner n n
 sooner_itself n = elim (cases_eq n 12) [ inl e ↦ inl e | inr d ↦ inr (d, omega arith) ]

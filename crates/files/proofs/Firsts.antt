@@ -9,12 +9,11 @@ use Rattle.files.specs.declared.rows.AskedRow.{AskedRow}
 use Rattle.files.specs.declared.head.Head.{Head}
 use Rattle.files.specs.declared.rows.MarkRow.{MarkRow}
 use Rattle.files.specs.declared.tables.Room.{Room}
-use Rattle.files.specs.Causes.{HasRoom, HeadFits, IsGradeNumber, MarkStands, Sooner, depths_in, rows_in}
-use Rattle.files.specs.Checking.{FirstOn, HeadStands, HeadCause, no_shape, no_query, too_short, MarkFits, MarkCause, no_grade, missing_mark}
+use Rattle.files.specs.Causes.{HasRoom, HeadFits, IsGradeNumber, MarkStands, Sooner, depths_in, rows_in, HeadCause, no_shape, no_query, too_short, NodeCause, depth, BlockCause, block, sum, TermCause, term, later_block, own_turn, MarkCause, no_grade, missing_mark, AskedCause, missing_term, CauseBehind, malformed}
+use Rattle.files.specs.Checking.{FirstOn, HeadSound, MarkSound}
 use Rattle.files.specs.Contents.{Contents, Ended}
-use Rattle.files.proofs.Sections.{NodeCause, depth, BlockCause, block, sum, TermCause, term, later_block, own_turn, AskedCause, missing_term, CauseBehind, malformed}
 
-pub sooner : (n m : ℕ) → n ≤ m → m < 12 → Sooner n m
+sooner : (n m : ℕ) → n ≤ m → m < 12 → Sooner n m
 sooner n m le few = inr ((λ e. omega arith), le)
 
 module _ (room : Room) (h : Head) where
@@ -42,7 +41,7 @@ module _ (room : Room) (h : Head) where
   pub room_first : Countable h.nodes → HeadFits h → (HasRoom room h → ⊥) → FirstOn (HeadCause room h) 7
   room_first shape query broken = record { is = too_short broken; first = after_room shape query }
 
-  pub head_fine : HeadStands room h → (n : ℕ) → HeadCause room h n → ⊥
+  pub head_fine : HeadSound room h → (n : ℕ) → HeadCause room h n → ⊥
   head_fine s n (no_shape b) = b s.countable
   head_fine s n (no_query b) = b s.fits
   head_fine s n (too_short b) = b s.has_room
@@ -58,7 +57,7 @@ module _ (h : Head) (m : MarkRow) where
   pub mark_first : IsGradeNumber h.grades m.grade → (MarkStands h m → ⊥) → FirstOn (MarkCause h m) 8
   mark_first grade broken = record { is = missing_mark broken; first = after_grade grade }
 
-  pub mark_fine : MarkFits h m → (n : ℕ) → MarkCause h m n → ⊥
+  pub mark_fine : MarkSound h m → (n : ℕ) → MarkCause h m n → ⊥
   mark_fine f n (no_grade b) = b f.grade
   mark_fine f n (missing_mark b) = b f.stands
 

@@ -5,8 +5,8 @@ use Rattle.std.specs.Result.{IsErrAnd}
 use Rattle.std.proofs.lemmas.List.{length-map}
 use Rattle.files.specs.declared.fault.LineCause.{LineCause}
 use Rattle.files.specs.Faults.{number_of_cause}
-use Rattle.files.specs.Lines.{Column, RowForm, RowFits, row_text}
-use Rattle.files.specs.Taking.{AreWidths, FitWidths, NoRow, Takes, TakesRow, columns_behind, in_widths}
+use Rattle.files.specs.Lines.{Column, RowForm, RowFits, row_text, NoRow}
+use Rattle.files.specs.Taking.{AreWidths, FitWidths, Takes, TakesRow, columns_behind, in_widths}
 use Rattle.files.proofs.Errors.{err_at}
 use Rattle.files.proofs.Widths.{numbers_apart}
 

@@ -1,44 +1,29 @@
 -- How long a text is, computed without writing it.
-use Rattle.std.proofs.Common.{◌≡◌, ℕ, ◌+◌, ◌^◌, ◌<◌, ◌≤◌, Bool, true, ◌&&◌, ltb, leb, List, [], ◌∷◌, ◌++◌, length, Some, None, Option, refl, ap₂, ◌∙◌, length-append, arith}
+use Rattle.std.proofs.Common.{◌≡◌, ℕ, ◌+◌, ◌^◌, Bool, true, ◌&&◌, ltb, leb, List, [], ◌∷◌, ◌++◌, length, Some, None, Option, refl, ap₂, ◌∙◌, length-append, arith}
 use Rattle.std.specs.List.{AllByRecursion, list_all}
 use Rattle.std.proofs.lemmas.Bool.{and_parts, ltb-true, leb-true}
-use Rattle.fields.specs.Fields.{field}
-use Rattle.fields.proofs.Columns.{length_field}
 use Rattle.files.specs.declared.rows.AskedRow.{AskedRow}
 use Rattle.files.specs.Contents.{Contents, asked_text, text_of}
-use Rattle.files.specs.Lines.{AllFit, Column, RowFits, RowForm, columns_text, row_text, rows_text}
+use Rattle.files.specs.Lines.{AllFit, Column, ColumnsFit, RowFits, RowForm, columns_text, row_text, rows_text, widths}
 use Rattle.files.specs.Rows.{asked_form, block_form, head_form, mark_form, node_form, term_form}
+use Rattle.files.proofs.Columns.{length_columns}
 
 -- a fact that a test tells, of each element
 pub all_tested : {X : Type 0} (P : X → Type 0) (test : X → Bool) → ((x : X) → test x ≡ true → P x) → (xs : List X) → list_all test xs ≡ true → AllByRecursion P xs
 all_tested P test tells [] e = tt
 all_tested P test tells (x ∷ xs) e = let p = and_parts (test x) (list_all test xs) e in (tells x p.0, all_tested P test tells xs p.1)
 
--- the number has room in its columns, of which there are one to ten
-pub record InColumn (c : Column) : Type 0 where
-  pub some : 0 < c.width
-  pub narrow : c.width ≤ 10
-  pub room : c.number < 10 ^ c.width
-
 abbrev pub in_column : Column → Bool
 in_column c = ltb 0 c.width && (leb c.width 10 && ltb c.number (10 ^ c.width))
 
-pub in_column_tells : (c : Column) → in_column c ≡ true → InColumn c
-in_column_tells c e =
-    let first = and_parts (ltb 0 c.width) (leb c.width 10 && ltb c.number (10 ^ c.width)) e in
-    let second = and_parts (leb c.width 10) (ltb c.number (10 ^ c.width)) first.1 in
-    record { some = ltb-true 0 c.width first.0; narrow = leb-true c.width 10 second.0; room = ltb-true c.number (10 ^ c.width) second.1 }
-
-abbrev widths : List Column → ℕ
-widths [] = 0
-widths (c ∷ cs) = c.width + widths cs
-
-length_columns : (cs : List Column) → list_all in_column cs ≡ true → length (columns_text cs) ≡ widths cs
-length_columns [] e = refl
-length_columns (c ∷ cs) e =
+columns_fit : (cs : List Column) → list_all in_column cs ≡ true → ColumnsFit cs
+columns_fit [] e = (tt, tt)
+columns_fit (c ∷ cs) e =
     let p = and_parts (in_column c) (list_all in_column cs) e in
-    let fits = in_column_tells c p.0 in
-    omega (arith, length-append (field c.width c.number) (columns_text cs), length_field c.width c.number fits.some fits.room fits.narrow, length_columns cs p.1)
+    let first = and_parts (ltb 0 c.width) (leb c.width 10 && ltb c.number (10 ^ c.width)) p.0 in
+    let second = and_parts (leb c.width 10) (ltb c.number (10 ^ c.width)) first.1 in
+    let more = columns_fit cs p.1 in
+    ((ltb-true c.number (10 ^ c.width) second.1, more.0), ((ltb-true 0 c.width first.0, leb-true c.width 10 second.0), more.1))
 
 module _ {R : Type 0} (form : RowForm R) where
   abbrev pub row_fits : R → Bool
@@ -52,7 +37,7 @@ module _ {R : Type 0} (form : RowForm R) where
   rows_length (r ∷ rs) = row_length r + rows_length rs
 
   length_row : (r : R) → row_fits r ≡ true → length (row_text form r) ≡ row_length r
-  length_row r e = omega (arith, length-append (columns_text (form.columns r)) (form.behind r ++ (10 ∷ [])), length-append (form.behind r) (10 ∷ []), length_columns (form.columns r) e)
+  length_row r e = omega (arith, length-append (columns_text (form.columns r)) (form.behind r ++ (10 ∷ [])), length-append (form.behind r) (10 ∷ []), length_columns (form.columns r) (columns_fit (form.columns r) e))
 
   length_rows : (rs : List R) → list_all row_fits rs ≡ true → length (rows_text form rs) ≡ rows_length rs
   length_rows [] e = refl
@@ -61,7 +46,7 @@ module _ {R : Type 0} (form : RowForm R) where
       omega (arith, length-append (row_text form r) (rows_text form rs), length_row r p.0, length_rows rs p.1)
 
   pub row_fits_tells : (r : R) → row_fits r ≡ true → RowFits form r
-  row_fits_tells r = all_tested (λ c. c.number < 10 ^ c.width) in_column (λ c e. (in_column_tells c e).room) (form.columns r)
+  row_fits_tells r e = (columns_fit (form.columns r) e).0
 
   pub all_fit_tells : (rs : List R) → list_all row_fits rs ≡ true → AllFit form rs
   all_fit_tells = all_tested (RowFits form) row_fits row_fits_tells

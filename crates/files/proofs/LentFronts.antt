@@ -9,7 +9,7 @@ use Rattle.surveys.specs.Standing.{Blank, Lent, Stands, Working, lent}
 use Rattle.surveys.proofs.Decisions.{fails_not}
 use Rattle.surveys.proofs.Fronts.{front, within}
 use Rattle.surveys.proofs.Placed.{place_inside}
-use Rattle.files.specs.Settles.{FrontHolds}
+use Rattle.files.specs.CallSteps.{FrontHolds}
 
 module _ {G : Type 0} {o : Opening G} {s : State G} {v : Survey} {l : Lent G} (stands : Stands o s v l) where
   -- once all is settled, nothing waits
@@ -40,7 +40,6 @@ module _ {G : Type 0} {o : Opening G} {s : State G} {v : Survey} {l : Lent G} (s
     front_holds all waiting room same =
         let below : n ≤ length waiting = omega arith in
         record {
-          marks = stands.marks;
-          values = stands.values;
+          grades = record { marks = stands.marks; values = stands.values };
           waiting = λ p from to. front waiting l.waiting n below (same ∙ length-take-le n waiting below) p 0 (omega arith) ∙ idle all p from to;
         }

@@ -46,7 +46,6 @@ pub mod Selecting
 pub mod Settled
 pub mod SettledTables
 pub mod Sizes
-pub mod SmallDepths
 pub mod SomeReading
 pub mod SomeSettling
 pub mod SomeTree

@@ -1,7 +1,7 @@
 -- Rows with the same grades at every node have the same listing.
 use Rattle.std.proofs.Common.{◌≡◌, ℕ, suc, ◌<◌, List, [], ◌∷◌, ◌++◌, length, sym, refl, ap, ap₂, ◌∙◌, arith}
 use Rattle.std.specs.List.{flat_map, ContainsAt as Has}
-use Rattle.files.specs.Settling.{Filed, ListsRow, selected_line, answer_line, end_line}
+use Rattle.files.specs.Listings.{Filed, ListsRow, answer_line, end_line, selected_line}
 
 flat_map_same : {A B : Type 0} (f g : A → List B) (xs : List A) → ((x : A) → Has xs x → f x ≡ g x) → flat_map f xs ≡ flat_map g xs
 flat_map_same f g [] same = refl

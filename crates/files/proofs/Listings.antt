@@ -6,9 +6,8 @@ use borrow.Rule.Slice.PartMut.{put_mid, mid_of}
 use Rattle.files.proofs.Columns.{length_line}
 use Rattle.files.proofs.Selecting.{none_below, one_passed, one_more}
 use Rattle.files.proofs.Written.{part_written}
-use Rattle.files.specs.Files.{Writes}
+use Rattle.files.specs.Listings.{ListsBelow, Writes}
 use Rattle.files.specs.Lines.{Column, five, ten, line_text}
-use Rattle.files.specs.Settling.{ListsBelow}
 
 -- a line with five columns and ten, as it was put
 pub record LinePut (letter m n : ℕ) (before after : List ℕ) (size : ℕ) : Type 0 where

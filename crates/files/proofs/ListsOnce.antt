@@ -1,7 +1,7 @@
 -- Rising lists of the same numbers are the same, and so are listings of the same rows.
 use Rattle.std.proofs.Common.{◌≡◌, ℕ, zero, suc, ◌<◌, ◌≤◌, List, [], ◌∷◌, length, get_or, ◌⊎◌, ◌++◌, refl, sym, ap, ◌∙◌, ap₂, inl, inr, arith}
 use Rattle.std.specs.List.{flat_map, ContainsAt as Has}
-use Rattle.files.specs.Settling.{Filed, ListsRow, answer_line, selected_line, end_line, listing}
+use Rattle.files.specs.Listings.{Filed, ListsRow, answer_line, end_line, listing, selected_line}
 
 abbrev Rising : List ℕ → Type 0
 Rising xs = (a b : ℕ) → a < b → b < length xs → get_or xs a 0 < get_or xs b 0

@@ -6,8 +6,9 @@ use Rattle.meaning.specs.Tables.{place}
 use Rattle.surveys.proofs.Placed.{place_apart}
 use Rattle.files.specs.Causes.{no_mark}
 use Rattle.files.specs.declared.rows.MarkRow.{MarkRow}
-use Rattle.files.specs.Settles.{SetsMarks}
-use Rattle.files.specs.Settling.{Filed, last_mark}
+use Rattle.files.specs.CallSteps.{SetsMarks}
+use Rattle.files.specs.Listings.{Filed}
+use Rattle.files.specs.Settling.{last_mark}
 
 -- a test of two numbers each
 both : (t a y x u v : ℕ) → ((t ≡ a) × (y ≡ x) × (cond (t == a && y == x) u v ≡ u)) ⊎ (((t ≡ a) × (y ≡ x) → ⊥) × (cond (t == a && y == x) u v ≡ v))

@@ -1,11 +1,11 @@
 -- The answers to small survey files, computed.
-use Rattle.std.proofs.Common.{◌≡◌, ℕ, ◌%◌, ◌^◌, ◌<◌, ◌≤◌, Bool, true, cond, eqb, List, [], ◌∷◌, Some, refl, mod-lt, eqb-true, lit<, arith, rules}
+use Rattle.std.proofs.Common.{◌≡◌, ℕ, ◌%◌, ◌^◌, ◌<◌, ◌≤◌, Bool, true, cond, eqb, List, [], ◌∷◌, Some, refl, mod-lt, eqb-true, lit<, arith}
 use Rattle.std.specs.Prelude.{◌==◌}
 use Rattle.std.specs.List.{list_all}
 use Rattle.grades.specs.declared.stage_set.StageSet.{StageSet}
-use Rattle.grades.specs.Filed.{Numbered, yes_no_number}
-use Rattle.grades.specs.Stages.{same_bits, stage_set_laws}
-use Rattle.grades.specs.YesNo.{yes_no_laws}
+use Rattle.grades.specs.Stages.{stage_set_laws}
+use Rattle.grades.specs.StageSets.{stage_sets}
+use Rattle.grades.specs.YesNo.{yes_no, yes_no_laws}
 use Rattle.shapes.specs.Depths.{DepthTree}
 use Rattle.shapes.specs.Mirrors.{mirror}
 use Rattle.shapes.specs.MirrorLaws.{mirror_means}
@@ -17,17 +17,20 @@ use Rattle.files.specs.declared.head.GradeKind.{GradeKind}
 use Rattle.files.specs.declared.head.GradeKind.TheVariants.{YesNo, StageSets}
 use Rattle.files.specs.declared.head.Hand.TheVariants.{AsListed, Mirrored}
 use Rattle.files.specs.declared.tables.Room.{Room}
-use Rattle.files.specs.Causes.{Cause, rows_in}
+use Rattle.files.specs.Causes.{Cause, depth, own_turn, rows_in}
+use Rattle.files.specs.Causes.Cause.{at_node, at_term}
 use Rattle.files.specs.Contents.{Contents, TermsThere, text_of}
 use Rattle.files.specs.Files.{Lists, ListsByKind, ListsFor, Refuses, TreeOf, filed_stage_sets, filed_yes_no}
+use Rattle.files.specs.Listings.{Filed, listing}
 use Rattle.files.specs.ModelAnswers.{ModelAnswers, WithRoom, Refusal, reach, itself, cycle, over, turned, mark, highest_number}
-use Rattle.files.specs.Settling.{Filed, listing}
 use Rattle.files.proofs.CauseTests.{checked, checks, first_cause, is_first, lawful, no_cause, none_claimed}
 use Rattle.files.proofs.ComputedListings.{Computed, Graded, lists_for, opening_on, same_grade, selected, settled_row}
 use Rattle.files.proofs.ComputedSteps.{settles_in}
 use Rattle.files.proofs.DepthTests.{tested}
 use Rattle.files.proofs.LawfulContents.{admitted, tree_laws}
 use Rattle.files.proofs.Lengths.{all_tested}
+use Rattle.files.proofs.OneOutcomes.{stage_set_numbered, yes_no_numbered}
+use Rattle.files.proofs.RefusedCalls.{calls_refused_lem}
 use Rattle.files.proofs.WholeFiles.{each, each_passes, reads_whole, whole, whole_tests}
 
 -- a tree of one, two and three nodes from its depths
@@ -40,14 +43,11 @@ two_depths = tested (0 ∷ (1 ∷ [])) two_nodes two_lawful refl refl
 three_depths : DepthTree (0 ∷ (1 ∷ (1 ∷ []))) three_nodes
 three_depths = tested (0 ∷ (1 ∷ (1 ∷ []))) three_nodes three_lawful refl refl
 
-yes_no_numbered : Numbered yes_no_number
-yes_no_numbered = search rules
-
 abbrev yes_nos : Graded Bool
 yes_nos = record { filed = filed_yes_no; laws = yes_no_laws; numbered = yes_no_numbered; grade = λ n. n == 1 }
 
 abbrev stages : Graded StageSet
-stages = record { filed = filed_stage_sets; laws = stage_set_laws; numbered = record { fits = λ x. x.fits; apart = same_bits }; grade = λ n. record { stages = n % 2 ^ 32; fits = mod-lt n (lit< tt) } }
+stages = record { filed = filed_stage_sets; laws = stage_set_laws; numbered = stage_set_numbered; grade = λ n. record { stages = n % 2 ^ 32; fits = mod-lt n (lit< tt) } }
 
 module _ {G : Type 0} (g : Graded G) (c : Contents) (t : Tree) (tree_of : TreeOf c c.head.hand t) (asked steps : ℕ) (numbers : ℕ → ℕ) (xs : List ℕ) where
   abbrev k : Filed G
@@ -119,7 +119,9 @@ model_answers_lem = record {
   cycle_least_owner = each_kind _
       (listed yes_nos (cycle 0 YesNo 1) two_nodes two_depths 1 4 (λ x. 0) [] refl refl refl (λ l. l))
       (listed stages (cycle 0 StageSets 1) two_nodes two_depths 1 4 (λ x. 0) [] refl refl refl (λ l. l));
-  too_deep = λ grades hand. refused (over (0 ∷ (2 ∷ [])) grades hand) 2 3 refl refl (λ room. Cause.depth 1 (lit< tt) (λ keeps. let rises : 2 ≤ 1 = keeps.rises (lit< tt) in omega arith));
-  second_root = λ grades hand. refused (over (0 ∷ (1 ∷ (0 ∷ []))) grades hand) 2 4 refl refl (λ room. Cause.depth 2 (lit< tt) (λ keeps. let other : 1 ≤ 0 = keeps.other (lit< tt) in omega arith));
-  turns_itself = λ grades hand. refused (turned grades hand) 6 4 refl refl (λ room. Cause.own_turn 0 (lit< tt) (λ earlier. let less : 0 < 0 = earlier 0 refl in omega arith));
+  too_deep = λ grades hand. refused (over (0 ∷ (2 ∷ [])) grades hand) 2 3 refl refl (λ room. at_node 1 2 (lit< tt) (depth (λ keeps. let rises : 2 ≤ 1 = keeps.rises (lit< tt) in omega arith)));
+  second_root = λ grades hand. refused (over (0 ∷ (1 ∷ (0 ∷ []))) grades hand) 2 4 refl refl (λ room. at_node 2 2 (lit< tt) (depth (λ keeps. let other : 1 ≤ 0 = keeps.other (lit< tt) in omega arith)));
+  turns_itself = λ grades hand. refused (turned grades hand) 6 4 refl refl (λ room. at_term 0 6 (lit< tt) (own_turn (λ earlier. let less : 0 < 0 = earlier 0 refl in omega arith)));
+  calls_yes_no = calls_refused_lem yes_no yes_no_laws;
+  calls_stage_sets = calls_refused_lem stage_sets stage_set_laws;
 }

@@ -4,14 +4,14 @@ use Rattle.std.proofs.lemmas.List.{length-map}
 use Rattle.shapes.specs.Depths.{KeepsRule, LawfulDepths}
 use Rattle.shapes.specs.DepthTables.{FirstFault}
 use Rattle.files.specs.declared.tables.Room.{Room}
-use Rattle.files.specs.Causes.{Cause, depths_in}
+use Rattle.files.specs.Causes.{Cause, depths_in, NodeCause, depth}
 use Rattle.files.specs.Checking.{CheckedTo, FirstOn}
 use Rattle.files.specs.Contents.{Contents}
 use Rattle.files.specs.Reading.{capped}
 use Rattle.files.proofs.Capped.{keeps_there, keeps_here}
 use Rattle.files.proofs.Firsts.{depth_first}
 use Rattle.files.proofs.Passing.{causes_behind, passes}
-use Rattle.files.proofs.Sections.{NodeCause, depth, in_nodes}
+use Rattle.files.proofs.Sections.{in_nodes}
 
 module _ (room : Room) (c : Contents) (checked : CheckedTo room c 2) where
   count : length (depths_in c) ≡ length c.nodes

@@ -11,28 +11,25 @@ use Rattle.files.specs.declared.head.GradeKind.{GradeKind}
 use Rattle.files.specs.declared.head.GradeKind.TheVariants.{YesNo, StageSets}
 use Rattle.files.specs.declared.rows.AskedRow.{AskedRow}
 use Rattle.files.specs.declared.tables.Room.{Room}
-use Rattle.files.specs.Causes.{FirstCause, rows_in}
-use Rattle.files.specs.Causes.Cause.{missing_term}
-use Rattle.files.specs.Contents.{Contents, Reads, NoHead, TermsThere, lines_of}
+use Rattle.files.specs.Causes.{FirstCause, missing_term, rows_in}
+use Rattle.files.specs.Causes.Cause.{at_asked}
+use Rattle.files.specs.Contents.{Contents, Reads, TermsThere, lines_of}
 use Rattle.files.specs.Files.{Lawful, Lists, ListsByKind, ListsFor, NeedsMoreFor, NeedsMoreSteps, Refuses}
+use Rattle.files.specs.Listings.{Filed}
+use Rattle.files.specs.Settling.{ListsTerm, Solved}
 use Rattle.files.specs.Files.Refuses.{too_long, no_head, first_cause, too_many_steps}
 use Rattle.files.specs.Outcomes.{OneOutcome}
-use Rattle.files.specs.Settling.{Filed, ListsTerm, Solved}
 use Rattle.files.proofs.FirstCauses.{one_first_cause}
 use Rattle.files.proofs.LawfulContents.{admitted, as_many_terms, tree_laws}
-use Rattle.files.proofs.OneReading.{in_parts, one_reading}
+use Rattle.files.proofs.OneReading.{head_stands, one_reading}
 use Rattle.files.proofs.OneSettling.{not_both_settled, term_listed_once}
 use Rattle.files.proofs.OneTree.{one_tree}
 
-yes_no_numbered : Numbered yes_no_number
+pub yes_no_numbered : Numbered yes_no_number
 yes_no_numbered = search rules
 
-stage_set_numbered : Numbered stage_set_number
+pub stage_set_numbered : Numbered stage_set_number
 stage_set_numbered = record { fits = λ x. x.fits; apart = same_bits }
-
--- a file with a reading begins with a head
-head_stands : {file : List ℕ} {c : Contents} {rest : List ℕ} → Reads file c rest → NoHead file → ⊥
-head_stands {c = c} {rest = rest} r none = none c.head _ r.fitting.head (r.written ∙ in_parts c rest)
 
 module _ {rooms : GradeKind → Room} {file : List ℕ} {c : Contents} {asked : ℕ} (w : Lawful rooms file c asked) where
   pub terms_there : TermsThere c
@@ -41,7 +38,7 @@ module _ {rooms : GradeKind → Room} {file : List ℕ} {c : Contents} {asked : 
   asked_stands : asked < length (told (rows_in c)).terms
   asked_stands = elim (cases_lt w.row.term c.head.terms) [
     | inl l ↦ omega (arith, w.term, as_many (rows_in c), as_many_terms w.no_cause terms_there, terms_there.1)
-    | inr le ↦ absurd (w.no_cause _ _ (missing_term w.row w.asks le))
+    | inr le ↦ absurd (w.no_cause _ _ (at_asked 8 (missing_term w.row w.asks le)))
   ]
 
   module _ {G : Type 0} (k : Filed G) (laws : KindLaws k.kind) (numbered : Numbered k.number) where

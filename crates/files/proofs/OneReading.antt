@@ -1,7 +1,7 @@
 -- A file is read in one way: what its lines say, and the rest behind them.
 use Rattle.std.proofs.Common.{◌≡◌, ℕ, ◌<◌, List, [], ◌∷◌, ◌++◌, length, Some, None, Option, ◌≢◌, refl, sym, ap, ◌∙◌, append_assoc, arith}
 use Rattle.files.specs.declared.rows.AskedRow.{AskedRow}
-use Rattle.files.specs.Contents.{Contents, Reads, InOrder, NodesThere, BlocksThere, TermsThere, asked_text, text_of}
+use Rattle.files.specs.Contents.{Contents, NoHead, Reads, InOrder, NodesThere, BlocksThere, TermsThere, asked_text, text_of}
 use Rattle.files.specs.Contents.Next.{node, block, term, mark, asked}
 use Rattle.files.specs.Lines.{row_text, rows_text, RowFits}
 use Rattle.files.specs.Rows.{head_form, node_form, block_form, term_form, mark_form, asked_form}
@@ -25,6 +25,10 @@ from_nodes c rest = rows_text node_form c.nodes ++ from_blocks c rest
 
 pub in_parts : (c : Contents) (rest : List ℕ) → text_of c ++ rest ≡ row_text head_form c.head ++ from_nodes c rest
 in_parts c rest = simp append_assoc
+
+-- a file with a reading begins with a head
+pub head_stands : {file : List ℕ} {c : Contents} {rest : List ℕ} → Reads file c rest → NoHead file → ⊥
+head_stands {c = c} {rest = rest} r none = none c.head _ r.fitting.head (r.written ∙ in_parts c rest)
 
 none_of : {X : Type 0} (xs : List X) → (xs ≢ [] → ⊥) → xs ≡ []
 none_of [] h = refl

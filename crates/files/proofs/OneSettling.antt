@@ -1,5 +1,5 @@
 -- A query is settled over a tree on the marks of rows in one way, so a row of it has one listing.
-use Rattle.std.proofs.Common.{◌≡◌, ℕ, ◌<◌, Bool, true, false, List, length, refl, sym, subst, arith}
+use Rattle.std.proofs.Common.{◌≡◌, ℕ, ◌<◌, Bool, true, false, List, length, refl, subst, arith}
 use Rattle.grades.specs.Filed.{Numbered}
 use Rattle.grades.specs.Kind.{Laws as KindLaws}
 use Rattle.shapes.specs.Tree.{Tree, Laws as TreeLaws}
@@ -10,12 +10,14 @@ use Rattle.surveys.specs.Calls.Answer.{altered, stepped, ran, row, refused}
 use Rattle.surveys.specs.Calls.Call.{run}
 use Rattle.surveys.specs.Promise.{Promised, SameAnswer, SameState, opening}
 use Rattle.surveys.specs.Promise.SameAnswer.{itself, rows}
-use Rattle.surveys.specs.Rules.{Opening, State, EveryBlockSettled, Makes, opened}
+use Rattle.surveys.specs.Rules.{Opening, State, opened}
 use Rattle.surveys.proofs.Promises.{promise_kept_lem}
 use Rattle.files.specs.declared.rows.MarkRow.{MarkRow}
-use Rattle.files.specs.Settling.{Filed, Settles, NeedsMore, Solved, ListsTerm, most_steps}
+use Rattle.files.specs.Listings.{Filed}
+use Rattle.files.specs.Settling.{ListsTerm, NeedsMore, RunsOut, Settles, Solved, most_steps}
 use Rattle.files.proofs.ListsOnce.{row_listed_once}
 use Rattle.files.proofs.OneTree.{one_marking}
+use Rattle.files.proofs.Settled.{settles_runs}
 
 -- whether an answer tells that all blocks are settled
 abbrev tells_settled : {G : Type 0} → Answer G → Bool
@@ -34,11 +36,8 @@ module _ {G : Type 0} (o : Opening G) where
   same_settled (itself v) = refl
   same_settled (rows vs ws h) = refl
 
-  pub settles_runs : {n : ℕ} {s : State G} → Settles o n s → Does o (opened o) (run most_steps) (ran n true) s
-  settles_runs {n = n} {s = s} e = Does.runs most_steps n true s e.few e.made ((λ _. e.all), (λ _. tt)) (λ _. e.all)
-
-  stops_runs : {s : State G} → Makes o most_steps (opened o) s → (EveryBlockSettled o s → ⊥) → Does o (opened o) (run most_steps) (ran most_steps false) s
-  stops_runs {s = s} makes left = Does.runs most_steps most_steps false s (omega arith) makes (absurd, left) (λ l. absurd (omega arith))
+  stops_runs : (r : RunsOut o) → Does o (opened o) (run most_steps) (ran most_steps false) r.state
+  stops_runs r = Does.runs most_steps most_steps false r.state (omega arith) r.made (absurd, r.stale_left) (λ l. absurd (omega arith))
 
   module _ (promise : Promised o) where
     one_run : {v w : Answer G} {s t : State G} → Does o (opened o) (run most_steps) v s → Does o (opened o) (run most_steps) w t → SameAnswer o v w × SameState o s t
@@ -47,8 +46,8 @@ module _ {G : Type 0} (o : Opening G) where
     settled_once : {n m : ℕ} {s t : State G} → Settles o n s → Settles o m t → (n ≡ m) × SameState o s t
     settled_once d e = let same = one_run (settles_runs d) (settles_runs e) in (same_made same.0, same.1)
 
-    settled_or_more : {n : ℕ} {s t : State G} → Settles o n s → Makes o most_steps (opened o) t → (EveryBlockSettled o t → ⊥) → ⊥
-    settled_or_more d makes left = let same : true ≡ false = same_settled (one_run (settles_runs d) (stops_runs makes left)).0 in cc
+    settled_or_more : {n : ℕ} {s : State G} → Settles o n s → RunsOut o → ⊥
+    settled_or_more d r = let same : true ≡ false = same_settled (one_run (settles_runs d) (stops_runs r)).0 in cc
 
 module _ {G : Type 0} (k : Filed G) (laws : KindLaws k.kind) (numbered : Numbered k.number) (t : Tree) (q : Table) (marks : List MarkRow) (nodes : TreeLaws t) (admitted : Admitted q) where
   promised : (m : Grades G) → Promised (opening k.kind t q m)
@@ -57,7 +56,7 @@ module _ {G : Type 0} (k : Filed G) (laws : KindLaws k.kind) (numbered : Numbere
   pub not_both_settled : Solved k t q marks → NeedsMore k t q marks → ⊥
   not_both_settled s n =
       let e : n.marks ≡ s.marks = one_marking k numbered marks n.marks s.marks n.marked s.marked in
-      (subst (λ m. Makes (opening k.kind t q m) most_steps (opened (opening k.kind t q m)) n.state → (EveryBlockSettled (opening k.kind t q m) n.state → ⊥) → ⊥) (sym e) (settled_or_more (opening k.kind t q s.marks) (promised s.marks) s.settles)) n.made n.stale_left
+      settled_or_more (opening k.kind t q s.marks) (promised s.marks) s.settles (subst (λ m. RunsOut (opening k.kind t q m)) e n.runs_out)
 
   pub term_listed_once : (s s' : Solved k t q marks) (asked : ℕ) → asked < length q.terms → (text text' : List ℕ) → ListsTerm k t q marks s asked text → ListsTerm k t q marks s' asked text' → text ≡ text'
   term_listed_once s s' asked stands text text' l l' = row_listed_once k t.count (s.state.values asked) (s'.state.values asked) same s.steps s'.steps text text' once.0 l l'

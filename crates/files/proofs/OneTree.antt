@@ -14,7 +14,8 @@ use Rattle.files.specs.declared.head.Hand.TheVariants.{AsListed, Mirrored}
 use Rattle.files.specs.declared.rows.MarkRow.{MarkRow}
 use Rattle.files.specs.Contents.{Contents}
 use Rattle.files.specs.Files.{TreeOf}
-use Rattle.files.specs.Settling.{Filed, MarksOf}
+use Rattle.files.specs.Listings.{Filed}
+use Rattle.files.specs.Settling.{MarksOf}
 
 -- trees that are the same are equal
 equal_tree : {s t : Tree} → SameTree s t → s ≡ t

@@ -1,5 +1,5 @@
 -- What listing a row answers, by how far it came.
-use Rattle.std.proofs.Common.{◌≡◌, ℕ, ◌+◌, ◌<◌, ◌≤◌, List, [], ◌∷◌, ◌++◌, length, Some, Err, subst, refl, append_assoc, ◌∙◌}
+use Rattle.std.proofs.Common.{◌≡◌, ℕ, ◌+◌, ◌<◌, ◌≤◌, List, [], ◌∷◌, length, Some, Err, subst, refl}
 use Rattle.files.specs.declared.fault.FileFault.{FileFault}
 use Rattle.files.specs.declared.fault.FileFault.TheVariants.{TooLong, Line, TooManySteps}
 use Rattle.files.specs.declared.fault.FileRefusal.{FileRefusal}
@@ -9,30 +9,21 @@ use Rattle.files.specs.declared.head.GradeKind.{GradeKind}
 use Rattle.files.specs.declared.rows.AskedRow.{AskedRow}
 use Rattle.files.specs.declared.tables.FileTables.{FileTables}
 use Rattle.files.specs.declared.tables.Room.{Room}
-use Rattle.files.specs.Causes.{FirstCause, NoCause}
-use Rattle.files.specs.Causes.Cause.{malformed}
-use Rattle.files.specs.Contents.{Contents, NoHead, Reads, asked_text, lines_of}
+use Rattle.files.specs.Causes.{FirstCause, NoCause, malformed}
+use Rattle.files.specs.Causes.Cause.{at_end}
+use Rattle.files.specs.Contents.{Contents, Reads, lines_of}
 use Rattle.files.specs.Faults.{number_of_cause, number_of_file, line_of_file}
+use Rattle.files.specs.CallSteps.{RowListed, Sound}
 use Rattle.files.specs.Files.{Lawful, NeedsMoreSteps, Refuses, most_bytes}
 use Rattle.files.specs.Files.Refuses.{too_long, no_head, first_cause, too_many_steps}
-use Rattle.files.specs.Listing.{RowListed}
-use Rattle.files.specs.Lines.{row_text, rows_text}
-use Rattle.files.specs.Models.{Sound}
 use Rattle.files.specs.Reading.{ReadRefused}
-use Rattle.files.specs.Rows.{head_form, node_form, block_form, term_form, mark_form}
 use Rattle.files.specs.Tables.{SameRooms, room_in}
-
--- what stands behind the head
-abbrev behind_head : Contents → List ℕ
-behind_head c = rows_text node_form c.nodes ++ (rows_text block_form c.blocks ++ (rows_text term_form c.terms ++ (rows_text mark_form c.marks ++ asked_text c.asked)))
-
-has_head : (file : List ℕ) (c : Contents) (rest : List ℕ) → Reads file c rest → NoHead file → ⊥
-has_head file c rest r none = none c.head (behind_head c ++ rest) r.fitting.head (r.written ∙ append_assoc (row_text head_form c.head) (behind_head c) rest)
+use Rattle.files.proofs.OneReading.{head_stands}
 
 -- where nothing is wrong, the file ends behind the line that asks
 ended : (room : Room) (c : Contents) (asked : AskedRow) (rest : List ℕ) → c.asked ≡ Some asked → NoCause room c rest → rest ≡ []
 ended room c asked [] e none = refl
-ended room c asked (x ∷ xs) e none = absurd (none 12 (lines_of c + 1) (malformed (λ h. let more : x ∷ xs ≡ [] = h.0 in cc)))
+ended room c asked (x ∷ xs) e none = absurd (none 12 (lines_of c + 1) (at_end 12 (malformed (λ h. let more : x ∷ xs ≡ [] = h.0 in cc))))
 
 pub sound : (room : Room) (file : List ℕ) (c : Contents) (asked : AskedRow) (rest : List ℕ) → Reads file c rest → c.asked ≡ Some asked → NoCause room c rest → Sound room c asked
 sound room file c asked rest r e none = record { in_order = r.in_order; no_cause = subst (NoCause room c) (ended room c asked rest e none) none; asks = e }
@@ -62,7 +53,7 @@ module _ (file : List ℕ) (t : FileTables) (output : List ℕ) where
 
     module _ (c : Contents) (rest : List ℕ) (r : Reads file c rest) where
       pub no_memory : RowListed file t t output output (Err NoMemory)
-      no_memory = ((refl, short, has_head file c rest r), refl)
+      no_memory = ((refl, short, head_stands r), refl)
 
       pub refused : (fault : LineFault) → FirstCause (room_in t c.head.grades) c rest (number_of_cause fault.cause) fault.line → RowListed file t t output output (Err (Fault (Line fault)))
       refused fault first = refuses (Line fault) t (λ _. refl) (first_cause c rest (number_of_cause fault.cause) fault.line short r first)

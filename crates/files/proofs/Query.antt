@@ -13,12 +13,12 @@ use Rattle.queries.specs.Refusals.{published}
 use Rattle.queries.specs.Rows.{Rows, rows, term_in}
 use Rattle.queries.proofs.Rules.{none, stands_there, later_there, turn_there}
 use Rattle.files.specs.declared.tables.Room.{Room}
-use Rattle.files.specs.Causes.{FirstCause, lowest_row, rows_in, block_line, term_line}
+use Rattle.files.specs.Causes.{FirstCause, lowest_row, rows_in, block_line, term_line, BlockCause, block, sum, TermCause}
 use Rattle.files.specs.Checking.{CheckedTo, FirstOn}
 use Rattle.files.specs.Contents.{Contents, BlocksThere}
 use Rattle.files.proofs.Firsts.{block_first, term_first, later_first, turn_first, term_fine}
 use Rattle.files.proofs.Passing.{causes_behind, passes, found}
-use Rattle.files.proofs.Sections.{BlockCause, block, sum, TermCause, in_blocks, in_terms}
+use Rattle.files.proofs.Sections.{in_blocks, in_terms}
 
 -- the rows with as many of the padded terms as the head says
 pub same_rows : (tags n : ℕ) (bs bs' : List BlockRow) (xs xs' padded : List TermRow) → bs ≡ bs' → xs ≡ xs' → padded ≡ xs ++ replicate (64 - length xs) lowest_row → length xs' ≤ n → n ≤ 64 → rows tags bs (take n padded) ≡ rows tags bs' (xs' ++ replicate (n - length xs') lowest_row)

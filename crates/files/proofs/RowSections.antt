@@ -1,7 +1,6 @@
 -- A section of a text: the rows of one kind, as many as are wanted, and then another section; or fewer, and then no such row.
 use Rattle.std.proofs.Common.{◌≡◌, ℕ, ◌<◌, ◌≤◌, List, [], ◌++◌, length, sym, ap, ◌∙◌, append-nil, append_assoc, arith}
-use Rattle.files.specs.Lines.{RowForm, AllFit, rows_text}
-use Rattle.files.specs.Taking.{NoRow}
+use Rattle.files.specs.Lines.{RowForm, AllFit, rows_text, NoRow}
 use Rattle.files.specs.TakingRows.{TakesRows}
 
 pub data Section {R : Type 0} (form : RowForm R) (rows : List R) (wanted : ℕ) (text rest : List ℕ) (Empty : Type 0) (Then : List ℕ → Type 0) : Type 0 where

@@ -1,16 +1,9 @@
 -- The lines of a file in sections, one for each kind of rows, and the causes on the lines of each.
-use Rattle.std.proofs.Common.{◌≡◌, ℕ, ◌+◌, ◌-◌, ◌<◌, ◌≤◌, List, length, Some, refl, sym, subst, ap, ◌∙◌, arith}
-use Rattle.shapes.specs.Depths.{KeepsRule}
-use Rattle.queries.specs.Admission.{BlockFits, BlocksAddUp, Stands}
-use Rattle.queries.specs.Rows.{told}
-use Rattle.queries.specs.Table.{NoLaterBlock, TurnEarlier}
-use Rattle.files.specs.declared.rows.AskedRow.{AskedRow}
+use Rattle.std.proofs.Common.{◌≡◌, ℕ, ◌+◌, ◌<◌, ◌≤◌, List, length, refl, sym, subst, ap, ◌∙◌, arith}
 use Rattle.files.specs.declared.tables.Room.{Room}
-use Rattle.files.specs.Causes as causes
-use Rattle.files.specs.Causes.{Cause, depths_in, mark_at, rows_in}
-use Rattle.files.specs.Checking as checking
-use Rattle.files.specs.Checking.{HeadCause, MarkCause}
-use Rattle.files.specs.Contents.{Contents, BlocksThere, Ended, asked_count, lines_of}
+use Rattle.files.specs.Causes.{AskedCause, BlockCause, Cause, CauseBehind, HeadCause, MarkCause, NodeCause, TermCause, block_line, mark_at, mark_line, missing_term, node_line, term_line}
+use Rattle.files.specs.Causes.Cause.{at_asked, at_block, at_end, at_head, at_mark, at_node, at_term}
+use Rattle.files.specs.Contents.{Contents, asked_count, lines_of}
 
 pub data Section : Type 0 where
   in_head : Section
@@ -20,25 +13,6 @@ pub data Section : Type 0 where
   in_marks : Section
   in_asked : Section
   behind : Section
-
--- what can be wrong with the other rows, by number
-pub data NodeCause (c : Contents) (x : ℕ) : ℕ → Type 0 where
-  depth : (KeepsRule (depths_in c) x → ⊥) → NodeCause c x 2
-
-pub data BlockCause (c : Contents) (b : ℕ) : ℕ → Type 0 where
-  block : (BlockFits (rows_in c) b → ⊥) → BlockCause c b 3
-  sum : b + 1 ≡ length c.blocks → BlocksThere c → (BlocksAddUp (rows_in c) → ⊥) → BlockCause c b 3
-
-pub data TermCause (c : Contents) (i : ℕ) : ℕ → Type 0 where
-  term : (Stands (rows_in c) i → ⊥) → TermCause c i 4
-  later_block : (NoLaterBlock (told (rows_in c)) i → ⊥) → TermCause c i 5
-  own_turn : (TurnEarlier (told (rows_in c)) i → ⊥) → TermCause c i 6
-
-pub data AskedCause (c : Contents) : ℕ → Type 0 where
-  missing_term : (r : AskedRow) → c.asked ≡ Some r → c.head.terms ≤ r.term → AskedCause c 8
-
-pub data CauseBehind (c : Contents) (rest : List ℕ) : ℕ → Type 0 where
-  malformed : (Ended c rest → ⊥) → CauseBehind c rest 12
 
 module _ (c : Contents) where
   -- the first line of a section
@@ -92,19 +66,13 @@ module _ (room : Room) (c : Contents) (rest : List ℕ) where
   Located n l = (s : Section) × (k : ℕ) × (k < size c s) × (l ≡ start c s + k) × CauseIn s k n
 
   located : (n l : ℕ) → Cause room c rest n l → Located n l
-  located n l (causes.no_shape h) = (in_head, 0, omega arith, omega arith, checking.no_shape h)
-  located n l (causes.no_query h) = (in_head, 0, omega arith, omega arith, checking.no_query h)
-  located n l (causes.too_short h) = (in_head, 0, omega arith, omega arith, checking.too_short h)
-  located n l (causes.depth x here h) = (in_nodes, x, here, omega arith, depth h)
-  located n l (causes.block b here h) = (in_blocks, b, here, omega arith, block h)
-  located n l (causes.sum there some h) = (in_blocks, length c.blocks - 1, omega arith, omega arith, sum (omega arith) there h)
-  located n l (causes.term i here h) = (in_terms, i, here, omega arith, term h)
-  located n l (causes.later_block i here h) = (in_terms, i, here, omega arith, later_block h)
-  located n l (causes.own_turn i here h) = (in_terms, i, here, omega arith, own_turn h)
-  located n l (causes.no_grade j here h) = (in_marks, j, here, omega arith, checking.no_grade h)
-  located n l (causes.missing_mark j here h) = (in_marks, j, here, omega arith, checking.missing_mark h)
-  located n l (causes.missing_term r asks h) = (in_asked, 0, rw asks (omega arith), rw asks (omega arith), missing_term r asks h)
-  located n l (causes.malformed h) = (behind, 0, omega arith, omega arith, malformed h)
+  located n l (at_head m h) = (in_head, 0, omega arith, omega arith, h)
+  located n l (at_node x m here h) = (in_nodes, x, here, omega arith, h)
+  located n l (at_block b m here h) = (in_blocks, b, here, omega arith, h)
+  located n l (at_term i m here h) = (in_terms, i, here, omega arith, h)
+  located n l (at_mark j m here h) = (in_marks, j, here, omega arith, h)
+  located n l (at_asked m (missing_term r asks h)) = (in_asked, 0, rw asks (omega arith), rw asks (omega arith), missing_term r asks h)
+  located n l (at_end m h) = (behind, 0, omega arith, omega arith, h)
 
   -- every line is counted from 1
   pub counted : (n l : ℕ) → Cause room c rest n l → 1 ≤ l
@@ -121,16 +89,10 @@ module _ (room : Room) (c : Contents) (rest : List ℕ) where
 
   -- and each of them is a cause
   pub made : (t : Section) (k n : ℕ) → k < size c t → CauseIn t k n → (l : ℕ) × (l ≡ start c t + k) × Cause room c rest n l
-  made in_head k n inside (checking.no_shape h) = (1, omega arith, causes.no_shape h)
-  made in_head k n inside (checking.no_query h) = (1, omega arith, causes.no_query h)
-  made in_head k n inside (checking.too_short h) = (1, omega arith, causes.too_short h)
-  made in_nodes x n inside (depth h) = (2 + x, refl, causes.depth x inside h)
-  made in_blocks b n inside (block h) = (2 + length c.nodes + b, refl, causes.block b inside h)
-  made in_blocks b n inside (sum last there h) = (2 + length c.nodes + (length c.blocks - 1), omega arith, causes.sum there (omega arith) h)
-  made in_terms i n inside (term h) = (2 + length c.nodes + length c.blocks + i, refl, causes.term i inside h)
-  made in_terms i n inside (later_block h) = (2 + length c.nodes + length c.blocks + i, refl, causes.later_block i inside h)
-  made in_terms i n inside (own_turn h) = (2 + length c.nodes + length c.blocks + i, refl, causes.own_turn i inside h)
-  made in_marks j n inside (checking.no_grade h) = (2 + length c.nodes + length c.blocks + length c.terms + j, refl, causes.no_grade j inside h)
-  made in_marks j n inside (checking.missing_mark h) = (2 + length c.nodes + length c.blocks + length c.terms + j, refl, causes.missing_mark j inside h)
-  made in_asked k n inside (missing_term r asks h) = (lines_of c, omega (arith, ap asked_count asks), causes.missing_term r asks h)
-  made behind k n inside (malformed h) = (lines_of c + 1, omega arith, causes.malformed h)
+  made in_head k n inside h = (1, omega arith, at_head n h)
+  made in_nodes x n inside h = (node_line x, refl, at_node x n inside h)
+  made in_blocks b n inside h = (block_line c b, refl, at_block b n inside h)
+  made in_terms i n inside h = (term_line c i, refl, at_term i n inside h)
+  made in_marks j n inside h = (mark_line c j, refl, at_mark j n inside h)
+  made in_asked k n inside (missing_term r asks h) = (lines_of c, omega (arith, ap asked_count asks), at_asked 8 (missing_term r asks h))
+  made behind k n inside h = (lines_of c + 1, omega arith, at_end n h)

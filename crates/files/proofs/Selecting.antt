@@ -1,10 +1,11 @@
--- The numbers below a place for which a fact holds, listed one place further.
-use Rattle.std.proofs.Common.{◌≡◌, ℕ, ◌+◌, ◌<◌, List, [], ◌∷◌, ◌++◌, length, get_or, subst, arith, inl, inr}
+-- The numbers below a place for which a fact holds, listed: one place further, and by a test.
+use Rattle.std.proofs.Common.{◌≡◌, ℕ, ◌+◌, ◌<◌, Bool, Decides, List, [], ◌∷◌, ◌++◌, length, filter, get_or, subst, arith, inl, inr}
 use Rattle.std.proofs.lemmas.Bool.{cases_lt}
 use Rattle.std.proofs.lemmas.List.{length-append, get_or_append_left, get_or_at}
 use Rattle.std.proofs.lemmas.List.Elements.{Contains-append_left, Contains-push, Contains-push_cases, Contains-get_or, Contains-from_at, at_from_Contains}
-use Rattle.std.specs.List.{Contains, ContainsAt as Has}
-use Rattle.files.specs.Settling.{ListsBelow}
+use Rattle.std.specs.List.{Contains, ContainsAt as Has, range_with_len}
+use Rattle.queries.proofs.Readers.{kept_all, kept_only, kept_rises}
+use Rattle.files.specs.Listings.{ListsBelow}
 
 module _ {P : ℕ → Type 0} where
   pub none_below : ListsBelow 0 P []
@@ -46,3 +47,11 @@ module _ {P : ℕ → Type 0} where
           | inl l ↦ Contains-append_left xs (i ∷ []) x (Contains-from_at xs x (lists.all x l q))
           | inr l ↦ let e : i ≡ x = omega arith in subst (Contains (xs ++ i ∷ [])) e (Contains-push xs i)
         ])
+
+-- the numbers that pass a test are those for which P holds, where the test decides it
+pub lists_filtered : (P : ℕ → Type 0) (test : ℕ → Bool) → ((x : ℕ) → Decides (test x) (P x)) → (n : ℕ) → ListsBelow n P (filter test (range_with_len 0 n))
+lists_filtered P test decides n = record {
+  rising = kept_rises test n;
+  only = λ x has. let h = kept_only test n x has in (h.0, (decides x).0 h.1);
+  all = λ x l p. kept_all test n x l ((decides x).1 p);
+}

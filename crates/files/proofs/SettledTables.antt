@@ -9,11 +9,12 @@ use Rattle.surveys.specs.Rules.{Opening, State}
 use Rattle.surveys.specs.Standing.{Lent}
 use Rattle.surveys.proofs.Readings.{Accepted}
 use Rattle.files.specs.declared.rows.MarkRow.{MarkRow}
-use Rattle.files.specs.Settles.{FrontHolds, ListsSettled, RunLists, RunsOut}
-use Rattle.files.specs.Settling.{Filed, HoldsState, MarksOf, NeedsMore}
+use Rattle.files.specs.CallSteps.{FrontHolds, RunLists}
+use Rattle.files.specs.Listings.{Filed, WritesSome}
+use Rattle.files.specs.Settling.{HoldsState, MarksOf, NeedsMore, RunsOut, Settled}
 use Rattle.files.specs.Tables.{cleared, room_of}
 use Rattle.files.proofs.Throughout.{behind, still_throughout}
-use Rattle.files.proofs.Settled.{solution}
+use Rattle.files.proofs.Settled.{solved}
 
 -- what lies behind the fronts of the tables was cleared, and is still so
 pub record BehindCleared {G : Type 0} (o : Opening G) (before after : Lent G) : Type 0 where
@@ -24,29 +25,28 @@ pub record BehindCleared {G : Type 0} (o : Opening G) (before after : Lent G) : 
 
 holds_state : {G : Type 0} {o : Opening G} {s : State G} {before after : Lent G} → FrontHolds o s after → BehindCleared o before after → HoldsState o s after
 holds_state {o = o} {before = before} {after = after} front rest = record {
-  marks = front.marks;
+  grades = front.grades;
   marks_behind = rest.marks;
-  values = front.values;
   values_behind = behind (length before.values) o.kind.lowest before.values after.values rest.values (ap (λ l. l.values) rest.clear);
   waiting = still_throughout (length before.waiting) 0 before.waiting after.waiting rest.waiting (ap (λ l. l.waiting) rest.clear) (λ p h. front.waiting p zero-le h);
 }
 
 module _ {G : Type 0} (k : Filed G) {t : Tree} {q : Table} (rows : List MarkRow) (asked : ℕ) {before after : Lent G} where
-  lists_settled : {size : ℕ} {output output' : List ℕ} (m : Grades G) → MarksOf k rows m → Accepted (opening k.kind t q m) → BehindCleared (opening k.kind t q m) before after → RunLists k (opening k.kind t q m) asked after output output' size → ListsSettled k t q rows asked after output output' size
+  lists_settled : {size : ℕ} {output output' : List ℕ} (m : Grades G) → MarksOf k rows m → Accepted (opening k.kind t q m) → BehindCleared (opening k.kind t q m) before after → RunLists k (opening k.kind t q m) asked after output output' size → WritesSome (Settled k t q rows asked after) output output' size
   lists_settled m marked accepted rest run = record {
-    text = run.text;
-    settled = record {
-      solved = record { marks = m; marked = marked; steps = run.steps; state = run.state; settles = run.settles; solution = solution accepted run.settles };
-      lists = run.lists;
+    text = run.written.text;
+    holds = record {
+      solved = solved k m marked accepted run.steps run.state run.settles;
+      lists = run.written.holds;
       holds = holds_state run.holds rest;
     };
-    is_size = run.is_size;
-    writes = run.writes;
+    is_size = run.written.is_size;
+    writes = run.written.writes;
   }
 
   -- what a run comes to is what settling comes to
   pub settled : (output output' : List ℕ) (r : Option ℕ) (m : Grades G) → MarksOf k rows m → Accepted (opening k.kind t q m) → BehindCleared (opening k.kind t q m) before after →
       MatchOption r (RunsOut (opening k.kind t q m) × (output' ≡ output)) (RunLists k (opening k.kind t q m) asked after output output') →
-      MatchOption r (NeedsMore k t q rows × (output' ≡ output)) (ListsSettled k t q rows asked after output output')
-  settled output output' None m marked accepted rest (run, same) = (record { marks = m; marked = marked; state = run.state; made = run.made; stale_left = run.stale_left }, same)
+      MatchOption r (NeedsMore k t q rows × (output' ≡ output)) (WritesSome (Settled k t q rows asked after) output output')
+  settled output output' None m marked accepted rest (run, same) = (record { marks = m; marked = marked; runs_out = run }, same)
   settled output output' (Some size) m marked accepted rest run = lists_settled m marked accepted rest run

@@ -1,15 +1,13 @@
 -- Every list of depths has a tree, and so have contents that have no cause to be refused.
-use Rattle.std.proofs.Common.{◌≡◌, ℕ, ◌+◌, ◌<◌, List, length, Some, None, Option, refl, sym, ap, ◌∙◌, subst, arith}
-use native.Mathlib.Decide.{ℕ_discrete, dec_lt}
+use Rattle.std.proofs.Common.{◌≡◌, ℕ, ◌<◌, List, length, Some, None, Option, refl, sym, ap, ◌∙◌, subst, arith}
 use Rattle.shapes.specs.declared.axis.Axis.{Axis}
 use Rattle.shapes.specs.declared.axis.Axis.TheVariants.{First, Next, Owner, Previous}
 use Rattle.shapes.specs.DepthLaws.{neighbour_node}
-use Rattle.shapes.specs.Depths.{DepthTree, FirstChild, Neighbour, NextSibling, depth_at}
+use Rattle.shapes.specs.Depths.{DepthTree, Neighbour}
 use Rattle.shapes.specs.MirrorLaws.{mirror_means}
 use Rattle.shapes.specs.Mirrors.{mirror}
 use Rattle.shapes.specs.Tree.{Tree, Iff, along, tree}
 use Rattle.shapes.proofs.DepthSteps.{next_once, previous_once}
-use Rattle.surveys.proofs.Decisions.{both, iff}
 use Rattle.surveys.proofs.Reaching.{some_below}
 use Rattle.files.specs.declared.head.Hand.{Hand}
 use Rattle.files.specs.declared.head.Hand.TheVariants.{AsListed, Mirrored}
@@ -17,24 +15,12 @@ use Rattle.files.specs.declared.tables.Room.{Room}
 use Rattle.files.specs.Causes.{NoCause, depths_in}
 use Rattle.files.specs.Contents.{Contents, TermsThere}
 use Rattle.files.specs.Files.{TreeOf}
-use Rattle.files.proofs.Decided.{all_below?, given?}
+use Rattle.files.proofs.Decided.{decides?}
+use Rattle.files.proofs.DepthTests.{neighbour_decides}
 use Rattle.files.proofs.LawfulContents.{depth_tree_laws}
 
-child? : (ds : List ℕ) (x y : ℕ) → Dec (FirstChild ds x y)
-child? ds x y =
-    iff (λ (a, (b, c)). record { after = a; node = b; deeper = c }) (λ c. (c.after, (c.node, c.deeper)))
-    (both (ℕ_discrete y (x + 1)) (λ _. both (dec_lt y (length ds)) (λ _. ℕ_discrete (depth_at ds y) (depth_at ds x + 1))))
-
-sibling? : (ds : List ℕ) (x y : ℕ) → Dec (NextSibling ds x y)
-sibling? ds x y =
-    iff (λ (a, (b, (c, d))). record { later = a; node = b; level = c; between = λ k l m. d k m l }) (λ s. (s.later, (s.node, (s.level, λ k l m. s.between k m l))))
-    (both (dec_lt x y) (λ _. both (dec_lt y (length ds)) (λ _. both (ℕ_discrete (depth_at ds y) (depth_at ds x)) (λ _. all_below? (λ k. x < k → depth_at ds x < depth_at ds k) (λ k. given? (dec_lt x k) (dec_lt (depth_at ds x) (depth_at ds k))) y))))
-
 neighbour? : (ds : List ℕ) (a : Axis) (x y : ℕ) → Dec (Neighbour ds a x y)
-neighbour? ds First x y = child? ds x y
-neighbour? ds Next x y = sibling? ds x y
-neighbour? ds Owner x y = child? ds y x
-neighbour? ds Previous x y = sibling? ds y x
+neighbour? ds a x y = decides? _ (neighbour_decides ds a x y)
 
 -- a node has one neighbour along an axis at most
 neighbour_once : (ds : List ℕ) (a : Axis) (x y z : ℕ) → Neighbour ds a x y → Neighbour ds a x z → y ≡ z

@@ -6,9 +6,8 @@ use Rattle.files.specs.declared.fault.LineCause.{LineCause}
 use Rattle.files.specs.declared.rows.AskedRow.{AskedRow}
 use Rattle.files.specs.Contents.{Contents, Ended}
 use Rattle.files.specs.Faults.{number_of_cause}
-use Rattle.files.specs.Lines.{RowForm, RowFits, row_text}
+use Rattle.files.specs.Lines.{RowForm, RowFits, row_text, NoRow}
 use Rattle.files.specs.Rows.{head_form, node_form, block_form, term_form, mark_form, asked_form}
-use Rattle.files.specs.Taking.{NoRow}
 use Rattle.files.specs.TakingRows.{ReadBehind, TakesMany, TakesMarks, TakesRows, headed}
 use Rattle.files.proofs.RowSections.{short, full}
 use Rattle.files.proofs.Behind.{Last, NoBlocks, NoMarks, NoTerms, Nodes, read_to}

@@ -13,8 +13,9 @@ use Rattle.surveys.specs.Opens.{Agrees}
 use Rattle.surveys.specs.Standing.{Lent}
 use Rattle.surveys.proofs.Placed.{place_inside}
 use Rattle.files.specs.declared.rows.MarkRow.{MarkRow}
-use Rattle.files.specs.Settles.{MarksStand, SetsMarks}
-use Rattle.files.specs.Settling.{Filed, MarksOf, last_mark}
+use Rattle.files.specs.CallSteps.{MarksInSurvey, SetsMarks}
+use Rattle.files.specs.Listings.{Filed}
+use Rattle.files.specs.Settling.{MarksOf, last_mark}
 use Rattle.files.proofs.Throughout.{throughout}
 use Rattle.files.proofs.MarkRows.{unmarked}
 
@@ -25,7 +26,7 @@ marks_in k t q table a x = cond (ltb a q.tags) (cond (ltb x t.count) (grades_in 
 pub marks_agree : {G : Type 0} (k : Kind G) (t : Tree) (q : Table) (l : Lent G) → Agrees k t q l (marks_in k t q l.marks)
 marks_agree k t q l a x tag node = rw (lt-ltb a q.tags tag, lt-ltb x t.count node) refl
 
-module _ {G : Type 0} (k : Filed G) (t : Tree) (q : Table) (rows : List MarkRow) (stand : MarksStand k.number t q rows) (size : ℕ) (before after : List G) (clear : before ≡ replicate size k.kind.lowest) (set : SetsMarks k t.count rows before after) where
+module _ {G : Type 0} (k : Filed G) (t : Tree) (q : Table) (rows : List MarkRow) (stand : MarksInSurvey k.number t q rows) (size : ℕ) (before after : List G) (clear : before ≡ replicate size k.kind.lowest) (set : SetsMarks k t.count rows before after) where
   -- what is no tag or no node has no mark
   no_tag : (a x : ℕ) → q.tags ≤ a → last_mark (k.number k.kind.lowest) rows a x ≡ k.number k.kind.lowest
   no_tag a x out = unmarked rows (k.number k.kind.lowest) a x (λ j h is. omega (arith, (stand j h).tag, is.0))

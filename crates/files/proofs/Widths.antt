@@ -7,8 +7,8 @@ use Rattle.std.proofs.lemmas.List.{take_more, take_more_set, take_all, length-ta
 use Rattle.fields.specs.Fields.{field}
 use Rattle.fields.specs.Taking.{Begins}
 use Rattle.fields.proofs.Columns.{field_apart}
-use Rattle.files.specs.Lines.{Column, InColumns, columns_text}
-use Rattle.files.specs.Taking.{AreWidths, IsWidth, FitWidths, columns_behind, in_widths}
+use Rattle.files.specs.Lines.{Column, InColumns, IsWidth, columns_text}
+use Rattle.files.specs.Taking.{AreWidths, FitWidths, columns_behind, in_widths}
 
 abbrev column : ℕ → ℕ → Column
 column w n = record { width = w; number = n }

@@ -2,7 +2,7 @@
 use Rattle.std.proofs.Common.{◌≡◌, ℕ, suc, ◌+◌, ◌<◌, ◌≤◌, List, [], ◌∷◌, ◌++◌, length, set, take, drop, refl, sym, ap, append_assoc, ◌∙◌, arith}
 use Rattle.std.proofs.lemmas.List.{length-append, length-drop, append-nil, take_all, drop_all, take_at, drop_at, drop-drop, set_split}
 use borrow.Rule.Slice.PartMut.{put_mid, mid_of}
-use Rattle.files.specs.Files.{Writes}
+use Rattle.files.specs.Listings.{Writes}
 
 module _ (before now text : List ℕ) (at : ℕ) (is_at : at ≡ length text) (writes : Writes before now text) where
   behind : drop at now ≡ drop at before

@@ -15,10 +15,13 @@ use Rattle.files.specs.declared.tables.Room.{Room}
 use Rattle.files.specs.Contents.{Contents, BlocksThere, Ended, lines_of}
 
 -- a mark for each tag and node, a value and a waiting place for each term and node
-pub record HasRoom (room : Room) (h : Head) : Type 0 where
-  pub marks : h.tags * h.nodes ≤ room.marks
-  pub values : h.terms * h.nodes ≤ room.values
-  pub waiting : h.terms * h.nodes ≤ room.waiting
+pub record RoomFor (tags terms nodes : ℕ) (room : Room) : Type 0 where
+  pub marks : tags * nodes ≤ room.marks
+  pub values : terms * nodes ≤ room.values
+  pub waiting : terms * nodes ≤ room.waiting
+
+abbrev pub HasRoom : Room → Head → Type 0
+HasRoom room h = RoomFor h.tags h.terms h.nodes room
 
 pub record HeadFits (h : Head) : Type 0 where
   pub few_tags : h.tags ≤ 16
@@ -65,32 +68,62 @@ term_line c i = 2 + length c.nodes + length c.blocks + i
 abbrev pub mark_line : Contents → ℕ → ℕ
 mark_line c j = 2 + length c.nodes + length c.blocks + length c.terms + j
 
+-- what can be wrong with a line, by number: with the head's
+pub data HeadCause (room : Room) (h : Head) : ℕ → Type 0 where
+  no_shape : (Countable h.nodes → ⊥) → HeadCause room h 1
+  no_query : (HeadFits h → ⊥) → HeadCause room h 3
+  too_short : (HasRoom room h → ⊥) → HeadCause room h 7
+
+-- .. a node's
+pub data NodeCause (c : Contents) (x : ℕ) : ℕ → Type 0 where
+  depth : (KeepsRule (depths_in c) x → ⊥) → NodeCause c x 2
+
+-- .. a block's; a wrong sum is one of the last block, once all are there
+pub data BlockCause (c : Contents) (b : ℕ) : ℕ → Type 0 where
+  block : (BlockFits (rows_in c) b → ⊥) → BlockCause c b 3
+  sum : b + 1 ≡ length c.blocks → BlocksThere c → (BlocksAddUp (rows_in c) → ⊥) → BlockCause c b 3
+
+-- .. a term's
+pub data TermCause (c : Contents) (i : ℕ) : ℕ → Type 0 where
+  term : (Stands (rows_in c) i → ⊥) → TermCause c i 4
+  later_block : (NoLaterBlock (told (rows_in c)) i → ⊥) → TermCause c i 5
+  own_turn : (TurnEarlier (told (rows_in c)) i → ⊥) → TermCause c i 6
+
+-- .. a mark's
+pub data MarkCause (h : Head) (m : MarkRow) : ℕ → Type 0 where
+  no_grade : (IsGradeNumber h.grades m.grade → ⊥) → MarkCause h m 12
+  missing_mark : (MarkStands h m → ⊥) → MarkCause h m 8
+
+-- .. the one that asks
+pub data AskedCause (c : Contents) : ℕ → Type 0 where
+  missing_term : (r : AskedRow) → c.asked ≡ Some r → c.head.terms ≤ r.term → AskedCause c 8
+
+-- .. and with what stands behind those that were read
+pub data CauseBehind (c : Contents) (rest : List ℕ) : ℕ → Type 0 where
+  malformed : (Ended c rest → ⊥) → CauseBehind c rest 12
+
 -- a cause, by its number and its line, in a file that says c and goes on with rest
 pub data Cause (room : Room) (c : Contents) (rest : List ℕ) : ℕ → ℕ → Type 0 where
-  no_shape : (Countable c.head.nodes → ⊥) → Cause room c rest 1 1
-  no_query : (HeadFits c.head → ⊥) → Cause room c rest 3 1
-  too_short : (HasRoom room c.head → ⊥) → Cause room c rest 7 1
-  depth : (x : ℕ) → x < length c.nodes → (KeepsRule (depths_in c) x → ⊥) → Cause room c rest 2 (node_line x)
-  block : (b : ℕ) → b < length c.blocks → (BlockFits (rows_in c) b → ⊥) → Cause room c rest 3 (block_line c b)
-  -- the last block's line
-  sum : BlocksThere c → 1 ≤ length c.blocks → (BlocksAddUp (rows_in c) → ⊥) → Cause room c rest 3 (block_line c (length c.blocks - 1))
-  term : (i : ℕ) → i < length c.terms → (Stands (rows_in c) i → ⊥) → Cause room c rest 4 (term_line c i)
-  later_block : (i : ℕ) → i < length c.terms → (NoLaterBlock (told (rows_in c)) i → ⊥) → Cause room c rest 5 (term_line c i)
-  own_turn : (i : ℕ) → i < length c.terms → (TurnEarlier (told (rows_in c)) i → ⊥) → Cause room c rest 6 (term_line c i)
-  no_grade : (j : ℕ) → j < length c.marks → (IsGradeNumber c.head.grades (mark_at c j).grade → ⊥) → Cause room c rest 12 (mark_line c j)
-  missing_mark : (j : ℕ) → j < length c.marks → (MarkStands c.head (mark_at c j) → ⊥) → Cause room c rest 8 (mark_line c j)
-  missing_term : (r : AskedRow) → c.asked ≡ Some r → c.head.terms ≤ r.term → Cause room c rest 8 (lines_of c)
-  -- the line behind those that were read
-  malformed : (Ended c rest → ⊥) → Cause room c rest 12 (lines_of c + 1)
+  at_head : (n : ℕ) → HeadCause room c.head n → Cause room c rest n 1
+  at_node : (x n : ℕ) → x < length c.nodes → NodeCause c x n → Cause room c rest n (node_line x)
+  at_block : (b n : ℕ) → b < length c.blocks → BlockCause c b n → Cause room c rest n (block_line c b)
+  at_term : (i n : ℕ) → i < length c.terms → TermCause c i n → Cause room c rest n (term_line c i)
+  at_mark : (j n : ℕ) → j < length c.marks → MarkCause c.head (mark_at c j) n → Cause room c rest n (mark_line c j)
+  at_asked : (n : ℕ) → AskedCause c n → Cause room c rest n (lines_of c)
+  at_end : (n : ℕ) → CauseBehind c rest n → Cause room c rest n (lines_of c + 1)
 
 -- on a line what is malformed comes first, and otherwise the smaller number
 abbrev pub Sooner : ℕ → ℕ → Type 0
 Sooner n m = (n ≡ 12) ⊎ ((m ≡ 12 → ⊥) × (n ≤ m))
 
+-- on an earlier line, or on the same and sooner there
+abbrev pub Before : ℕ → ℕ → ℕ → ℕ → Type 0
+Before n l m k = (l < k) ⊎ ((l ≡ k) × Sooner n m)
+
 -- the first cause: on the first line that has one, and there the first
 pub record FirstCause (room : Room) (c : Contents) (rest : List ℕ) (number line : ℕ) : Type 0 where
   pub cause : Cause room c rest number line
-  pub first : (n l : ℕ) → Cause room c rest n l → (line < l) ⊎ ((line ≡ l) × Sooner number n)
+  pub first : (n l : ℕ) → Cause room c rest n l → Before number line n l
 
 abbrev pub NoCause : Room → Contents → List ℕ → Type 0
 NoCause room c rest = (n l : ℕ) → Cause room c rest n l → ⊥

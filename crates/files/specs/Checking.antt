@@ -10,26 +10,15 @@ use Rattle.files.specs.Contents.{Contents, InOrder, lines_of}
 use Rattle.files.specs.Faults.{number_of_cause}
 
 -- nothing is wrong with the first line
-pub record HeadStands (room : Room) (h : Head) : Type 0 where
+pub record HeadSound (room : Room) (h : Head) : Type 0 where
   pub countable : Countable h.nodes
   pub fits : HeadFits h
   pub has_room : HasRoom room h
 
--- what can be wrong with it, by number
-pub data HeadCause (room : Room) (h : Head) : ℕ → Type 0 where
-  no_shape : (Countable h.nodes → ⊥) → HeadCause room h 1
-  no_query : (HeadFits h → ⊥) → HeadCause room h 3
-  too_short : (HasRoom room h → ⊥) → HeadCause room h 7
-
 -- nothing is wrong with the line of a mark
-pub record MarkFits (h : Head) (m : MarkRow) : Type 0 where
+pub record MarkSound (h : Head) (m : MarkRow) : Type 0 where
   pub grade : IsGradeNumber h.grades m.grade
   pub stands : MarkStands h m
-
--- what can be wrong with it, by number
-pub data MarkCause (h : Head) (m : MarkRow) : ℕ → Type 0 where
-  no_grade : (IsGradeNumber h.grades m.grade → ⊥) → MarkCause h m 12
-  missing_mark : (MarkStands h m → ⊥) → MarkCause h m 8
 
 -- the first of the causes on a line
 pub record FirstOn (P : ℕ → Type 0) (number : ℕ) : Type 0 where
@@ -40,7 +29,7 @@ pub record FirstOn (P : ℕ → Type 0) (number : ℕ) : Type 0 where
 pub record CheckedTo (room : Room) (c : Contents) (line : ℕ) : Type 0 where
   pub in_order : InOrder c
   pub few : lines_of c + 1 < 2 ^ 64
-  pub head : HeadStands room c.head
+  pub head : HeadSound room c.head
   pub causes : (rest : List ℕ) (n l : ℕ) → Cause room c rest n l → line ≤ l
 
 -- the file is checked up to a line; or the first cause was found, whatever stands behind what was read

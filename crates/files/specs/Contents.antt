@@ -7,7 +7,7 @@ use Rattle.files.specs.declared.head.Head.{Head}
 use Rattle.files.specs.declared.rows.AskedRow.{AskedRow}
 use Rattle.files.specs.declared.rows.MarkRow.{MarkRow}
 use Rattle.files.specs.declared.rows.NodeRow.{NodeRow}
-use Rattle.files.specs.Lines.{row_text, rows_text, RowFits, AllFit}
+use Rattle.files.specs.Lines.{row_text, rows_text, RowFits, AllFit, NoRow}
 use Rattle.files.specs.Rows.{head_form, node_form, block_form, term_form, mark_form, asked_form}
 
 pub record Contents : Type 0 where
@@ -83,7 +83,7 @@ pub record Reads (file : List ℕ) (c : Contents) (rest : List ℕ) : Type 0 whe
 
 -- the file does not even begin with a head
 abbrev pub NoHead : List ℕ → Type 0
-NoHead file = (h : Head) (more : List ℕ) → RowFits head_form h → file ≢ row_text head_form h ++ more
+NoHead = NoRow head_form
 
 -- the file is read to its end, the line that asks
 abbrev pub Ended : Contents → List ℕ → Type 0

@@ -1,5 +1,5 @@
 -- What the call on a survey file answers, and what it leaves.
-use Rattle.std.specs.Prelude.{◌≡◌, ℕ, ◌<◌, ◌≤◌, Bool, List, [], ◌++◌, drop, length, Some, Ok, Err, Result}
+use Rattle.std.specs.Prelude.{◌≡◌, ℕ, ◌<◌, ◌≤◌, Bool, List, [], length, Some, Ok, Err, Result}
 use Rattle.grades.specs.Filed.{yes_no_number, stage_set_number}
 use Rattle.grades.specs.StageSets.{stage_sets}
 use Rattle.grades.specs.YesNo.{yes_no}
@@ -21,7 +21,8 @@ use Rattle.files.specs.declared.tables.Room.{Room}
 use Rattle.files.specs.Causes.{FirstCause, NoCause, depths_in, rows_in}
 use Rattle.files.specs.Contents.{Contents, NoHead, Reads, lines_of}
 use Rattle.files.specs.Faults.{number_of_file, line_of_file}
-use Rattle.files.specs.Settling.{Filed, filed, NeedsMore, Solved, ListsTerm, Settled, fault_line}
+use Rattle.files.specs.Listings.{Filed, Writes, WritesSome, fault_line, filed}
+use Rattle.files.specs.Settling.{ListsTerm, NeedsMore, Settled, Solved}
 use Rattle.files.specs.Tables.{IsCleared, SameRoom, AllCleared, lists_of, room_in}
 
 -- no file may be longer
@@ -92,17 +93,6 @@ SettledByKind YesNo c asked before after text =
     SettledFor filed_yes_no c asked (lists_of before.yes_no) (lists_of after.yes_no) text × IsCleared stage_sets (lists_of before.stage_sets) (lists_of after.stage_sets)
 SettledByKind StageSets c asked before after text =
     SettledFor filed_stage_sets c asked (lists_of before.stage_sets) (lists_of after.stage_sets) text × IsCleared yes_no (lists_of before.yes_no) (lists_of after.yes_no)
-
--- the output begins with the text, and is as it was behind it
-abbrev pub Writes : List ℕ → List ℕ → List ℕ → Type 0
-Writes before after text = after ≡ text ++ drop (length text) before
-
--- a text of which P holds is written, so many bytes long
-pub record WritesSome (P : List ℕ → Type 0) (before after : List ℕ) (size : ℕ) : Type 0 where
-  pub text : List ℕ
-  pub holds : P text
-  pub is_size : size ≡ length text
-  pub writes : Writes before after text
 
 -- a listing, so many bytes long
 pub record Listed (file : List ℕ) (before after : FileTables) (output output' : List ℕ) (size : ℕ) : Type 0 where

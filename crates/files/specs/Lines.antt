@@ -1,5 +1,5 @@
 -- Lines, of survey files and of listings: a letter, numbers in columns, letters behind them, and the end of the line.
-use Rattle.std.specs.Prelude.{ℕ, ◌+◌, ◌^◌, ◌<◌, ◌≤◌, List, [], ◌∷◌, ◌++◌}
+use Rattle.std.specs.Prelude.{ℕ, ◌+◌, ◌^◌, ◌<◌, ◌≤◌, List, [], ◌∷◌, ◌++◌, ◌≢◌}
 use Rattle.std.specs.List.{flat_map, AllByRecursion}
 use Rattle.fields.specs.Fields.{field}
 pub use Rattle.files.specs.declared.output.Column.{Column}
@@ -20,9 +20,13 @@ line_text letter columns behind = letter ∷ (columns_text columns ++ (behind ++
 abbrev pub InColumns : List Column → Type 0
 InColumns = AllByRecursion (λ c. c.number < 10 ^ c.width)
 
--- .. of which there are one to ten
+-- how many columns a number may have
+abbrev pub IsWidth : ℕ → Type 0
+IsWidth w = (0 < w) × (w ≤ 10)
+
+-- each number has so many columns, and room in them
 abbrev pub ColumnsFit : List Column → Type 0
-ColumnsFit columns = InColumns columns × AllByRecursion (λ c. (0 < c.width) × (c.width ≤ 10)) columns
+ColumnsFit columns = InColumns columns × AllByRecursion (λ c. IsWidth c.width) columns
 
 abbrev pub widths : List Column → ℕ
 widths [] = 0
@@ -49,3 +53,7 @@ rows_text form = flat_map (row_text form)
 
 abbrev pub AllFit : {R : Type 0} → RowForm R → List R → Type 0
 AllFit form = AllByRecursion (RowFits form)
+
+-- no row of that form stands at the front of a text
+abbrev pub NoRow : {R : Type 0} → RowForm R → List ℕ → Type 0
+NoRow form text = (r : _) (more : List ℕ) → RowFits form r → text ≢ row_text form r ++ more

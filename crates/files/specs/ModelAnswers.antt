@@ -1,5 +1,7 @@
--- Small survey files and what is answered to each, worked out.
+-- Small survey files and what is answered to each, worked out, and calls that are refused.
 use Rattle.std.specs.Prelude.{ℕ, ◌-◌, ◌^◌, ◌≤◌, cond, List, [], ◌∷◌, length, map, Some, ◌==◌}
+use Rattle.grades.specs.StageSets.{stage_sets}
+use Rattle.grades.specs.YesNo.{yes_no}
 use Rattle.queries.specs.declared.rows.BlockRow.{BlockRow}
 use Rattle.queries.specs.declared.rows.TermRow.{TermRow}
 use Rattle.files.specs.declared.head.GradeKind.{GradeKind}
@@ -11,7 +13,8 @@ use Rattle.files.specs.declared.rows.MarkRow.{MarkRow}
 use Rattle.files.specs.declared.tables.Room.{Room}
 use Rattle.files.specs.Contents.{Contents, text_of}
 use Rattle.files.specs.Files.{Lists, Refuses}
-use Rattle.files.specs.Settling.{listing}
+use Rattle.files.specs.Listings.{listing}
+use Rattle.files.specs.RefusedCalls.{CallsRefused}
 
 -- tables that are long enough for each of the files below
 pub record Ample (room : Room) : Type 0 where
@@ -93,3 +96,6 @@ pub record ModelAnswers : Type 0 where
   pub second_root : (grades : GradeKind) (hand : Hand) → Refusal (over (0 ∷ (1 ∷ (0 ∷ []))) grades hand) 2 4
   -- a term may not turn itself; its line is the fourth
   pub turns_itself : (grades : GradeKind) (hand : Hand) → Refusal (turned grades hand) 6 4
+  -- whatever the query, a reading right after opening is refused, and so is a step where every block is settled
+  pub calls_yes_no : CallsRefused yes_no
+  pub calls_stage_sets : CallsRefused stage_sets

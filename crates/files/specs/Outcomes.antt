@@ -6,7 +6,8 @@ use Rattle.files.specs.declared.head.GradeKind.{GradeKind}
 use Rattle.files.specs.declared.tables.FileTables.{FileTables}
 use Rattle.files.specs.declared.tables.Room.{Room}
 use Rattle.files.specs.Faults.{number_of_file, line_of_file}
-use Rattle.files.specs.Files.{FileAnswers, Lists, Refuses, Writes}
+use Rattle.files.specs.Files.{FileAnswers, Lists, Refuses}
+use Rattle.files.specs.Listings.{Writes}
 use Rattle.files.specs.Tables.{room_in}
 
 -- a file is refused for one cause, or lists one text, and not both

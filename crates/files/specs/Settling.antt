@@ -1,7 +1,5 @@
--- Settling a query over a tree on the marks of a file, and the listing of a row.
-use Rattle.std.specs.Prelude.{◌≡◌, ℕ, ◌*◌, ◌<◌, ◌≤◌, cond, ◌&&◌, List, [], ◌∷◌, ◌++◌, length, replicate, ◌==◌, ◌≢◌, slice_index, slice_index_or}
-use Rattle.std.specs.List.{flat_map, ContainsAt as Has}
-use Rattle.grades.specs.Kind.{Kind}
+-- Settling a query over a tree on the marks of a file.
+use Rattle.std.specs.Prelude.{◌≡◌, ℕ, ◌*◌, ◌<◌, ◌≤◌, cond, ◌&&◌, List, [], ◌∷◌, length, replicate, ◌==◌, slice_index_or}
 use Rattle.shapes.specs.Tree.{Tree}
 use Rattle.queries.specs.Table.{Table}
 use Rattle.meaning.specs.Solutions.{Grades, Blockwise}
@@ -10,15 +8,7 @@ use Rattle.surveys.specs.Promise.{opening}
 use Rattle.surveys.specs.Rules.{Opening, State, EveryBlockSettled, Makes, opened}
 use Rattle.surveys.specs.Standing.{Lent}
 use Rattle.files.specs.declared.rows.MarkRow.{MarkRow}
-use Rattle.files.specs.Lines.{five, ten, line_text}
-
--- a kind of grade, and the numbers of its grades in files
-pub record Filed (G : Type 0) : Type 0 where
-  pub kind : Kind G
-  pub number : G → ℕ
-
-abbrev pub filed : {G : Type 0} → Kind G → (G → ℕ) → Filed G
-filed k number = record { kind = k; number = number }
+use Rattle.files.specs.Listings.{Filed, ListsRow}
 
 -- the number of the last mark of a tag at a node; another where there is none
 abbrev pub last_mark : ℕ → List MarkRow → ℕ → ℕ → ℕ
@@ -39,50 +29,27 @@ pub record Settles {G : Type 0} (o : Opening G) (steps : ℕ) (s : State G) : Ty
   pub made : Makes o steps (opened o) s
   pub all : EveryBlockSettled o s
 
--- it does not settle in the most steps
+-- it has made the most steps, and is not settled
+pub record RunsOut {G : Type 0} (o : Opening G) : Type 0 where
+  pub state : State G
+  pub made : Makes o most_steps (opened o) state
+  pub stale_left : EveryBlockSettled o state → ⊥
+
+-- a survey that is opened on the tree, the query and the marks of the rows does not settle in the most steps
 pub record NeedsMore {G : Type 0} (k : Filed G) (t : Tree) (q : Table) (rows : List MarkRow) : Type 0 where
   pub marks : Grades G
   pub marked : MarksOf k rows marks
-  pub state : State G
-  pub made : Makes (opening k.kind t q marks) most_steps (opened (opening k.kind t q marks)) state
-  pub stale_left : EveryBlockSettled (opening k.kind t q marks) state → ⊥
+  pub runs_out : RunsOut (opening k.kind t q marks)
 
--- the numbers below n for which P holds, in rising order
-pub record ListsBelow (n : ℕ) (P : ℕ → Type 0) (xs : List ℕ) : Type 0 where
-  pub rising : (a b : ℕ) → a < b → b < length xs → slice_index xs a < slice_index xs b
-  pub only : (x : ℕ) → Has xs x → (x < n) × P x
-  pub all : (x : ℕ) → x < n → P x → Has xs x
-
--- A: how many nodes the model has and how many steps were made
-abbrev pub answer_line : ℕ → ℕ → List ℕ
-answer_line nodes steps = line_text 65 (five nodes ∷ (ten steps ∷ [])) []
-
--- S: a node and the number of its grade
-abbrev pub selected_line : (ℕ → ℕ) → ℕ → List ℕ
-selected_line numbers x = line_text 83 (five x ∷ (ten (numbers x) ∷ [])) []
-
--- E: how many nodes were listed
-abbrev pub end_line : ℕ → List ℕ
-end_line count = line_text 69 (five count ∷ []) []
-
--- F: the number and the line of a refusal
-abbrev pub fault_line : ℕ → ℕ → List ℕ
-fault_line number line = line_text 70 (five number ∷ (five line ∷ [])) []
-
-abbrev pub listing : ℕ → ℕ → (ℕ → ℕ) → List ℕ → List ℕ
-listing nodes steps numbers selected = answer_line nodes steps ++ (flat_map (selected_line numbers) selected ++ end_line (length selected))
-
--- the text lists each node of a row whose grade is not the lowest
-pub record ListsRow {G : Type 0} (k : Filed G) (nodes steps : ℕ) (row : ℕ → G) (text : List ℕ) : Type 0 where
-  pub selected : List ℕ
-  pub lists : ListsBelow nodes (λ x. row x ≢ k.kind.lowest) selected
-  pub written : text ≡ listing nodes steps (λ x. k.number (row x)) selected
-
--- what the tables hold of a state: its marks and values, with lowest behind them, and nothing waits
-pub record HoldsState {G : Type 0} (o : Opening G) (s : State G) (l : Lent G) : Type 0 where
+-- the tables hold the marks and the values of a state
+pub record HoldsGrades {G : Type 0} (o : Opening G) (s : State G) (l : Lent G) : Type 0 where
   pub marks : (a x : ℕ) → a < o.query.tags → x < o.tree.count → grades_in o.kind o.tree.count l.marks a x ≡ s.marks a x
-  pub marks_behind : (p : ℕ) → o.query.tags * o.tree.count ≤ p → slice_index_or l.marks p o.kind.lowest ≡ o.kind.lowest
   pub values : (i x : ℕ) → i < length o.query.terms → x < o.tree.count → grades_in o.kind o.tree.count l.values i x ≡ s.values i x
+
+-- .. with lowest behind them, and nothing waits
+pub record HoldsState {G : Type 0} (o : Opening G) (s : State G) (l : Lent G) : Type 0 where
+  pub grades : HoldsGrades o s l
+  pub marks_behind : (p : ℕ) → o.query.tags * o.tree.count ≤ p → slice_index_or l.marks p o.kind.lowest ≡ o.kind.lowest
   pub values_behind : (p : ℕ) → length o.query.terms * o.tree.count ≤ p → slice_index_or l.values p o.kind.lowest ≡ o.kind.lowest
   pub waiting : l.waiting ≡ replicate (length l.waiting) 0
 

@@ -1,10 +1,10 @@
 -- What is taken off the front of a text.
-use Rattle.std.specs.Prelude.{◌≡◌, ℕ, ◌≤◌, ◌<◌, List, [], ◌∷◌, ◌++◌, length, Ok, Err, Result, ◌≢◌}
+use Rattle.std.specs.Prelude.{◌≡◌, ℕ, List, [], ◌∷◌, ◌++◌, length, Ok, Err, Result, ◌≢◌}
 use Rattle.std.specs.Borrow.{Bor}
 use Rattle.std.specs.List.{AllByRecursion}
 use Rattle.files.specs.declared.fault.LineCause.{LineCause}
 use Rattle.files.specs.Faults.{number_of_cause}
-use Rattle.files.specs.Lines.{Column, RowForm, InColumns, RowFits, columns_text, row_text}
+use Rattle.files.specs.Lines.{Column, RowForm, InColumns, IsWidth, RowFits, columns_text, row_text}
 
 -- the text begins with what is written for a value that fits, and goes on with the rest; or it begins with what is written for none, and is malformed
 abbrev pub Takes : {A : Type 0} → (A → List ℕ) → (A → Type 0) → List ℕ → Result (A × Bor (List ℕ)) LineCause → Type 0
@@ -14,10 +14,6 @@ Takes written Fits text (Err cause) = ((x : _) (more : List ℕ) → Fits x → 
 -- a line of that form
 abbrev pub TakesRow : {R : Type 0} → RowForm R → List ℕ → Result (R × Bor (List ℕ)) LineCause → Type 0
 TakesRow form = Takes (row_text form) (RowFits form)
-
--- no line of that form stands at the front
-abbrev pub NoRow : {R : Type 0} → RowForm R → List ℕ → Type 0
-NoRow form text = (r : _) (more : List ℕ) → RowFits form r → text ≢ row_text form r ++ more
 
 -- the text begins with these letters, or it does not
 abbrev pub TakesText : List ℕ → List ℕ → Result (Bor (List ℕ)) LineCause → Type 0
@@ -29,10 +25,6 @@ abbrev pub in_widths : List ℕ → List ℕ → List Column
 in_widths [] numbers = []
 in_widths (w ∷ ws) [] = []
 in_widths (w ∷ ws) (n ∷ ns) = record { width = w; number = n } ∷ in_widths ws ns
-
--- how many columns a number may have
-abbrev pub IsWidth : ℕ → Type 0
-IsWidth w = (0 < w) × (w ≤ 10)
 
 abbrev pub AreWidths : List ℕ → Type 0
 AreWidths = AllByRecursion IsWidth

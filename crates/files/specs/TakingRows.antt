@@ -8,10 +8,9 @@ use Rattle.files.specs.declared.head.Head.{Head}
 use Rattle.files.specs.declared.rows.MarkRow.{MarkRow}
 use Rattle.files.specs.Contents.{Contents}
 use Rattle.files.specs.Faults.{number_of_cause}
-use Rattle.files.specs.Lines.{RowForm, RowFits, AllFit, row_text, rows_text}
+use Rattle.files.specs.Lines.{RowForm, RowFits, AllFit, row_text, rows_text, NoRow}
 use Rattle.files.specs.Reading.{ReadTo}
 use Rattle.files.specs.Rows.{head_form, mark_form, asked_form}
-use Rattle.files.specs.Taking.{NoRow}
 
 -- a row was taken, and added behind those before
 pub record AddsRow {R : Type 0} (form : RowForm R) (before : List R) (text : List ℕ) (after : List R) (rest : List ℕ) : Type 0 where

@@ -34,9 +34,10 @@ impl Checked<'_> {
         ensures { let c = contents_of self.entry.contents.now in Checks self.entry.room c (node_line (length c.nodes)) result }
     {
         match first_fault(depths) {
-            Some(node) => Err(LineCause::from(ShapeRefusal::UnlawfulDepth { node }).at(line_of_node(
-                node,
-            ))),
+            Some(node) => {
+                let cause = LineCause::from(ShapeRefusal::UnlawfulDepth { node });
+                Err(cause.at(line_of_node(node)))
+            }
             None => Ok(()),
         }
     }

@@ -6,10 +6,10 @@ ghost use Rattle.queries.specs.Rows.{rows_of, told as told_by};
 ghost use Rattle.files.specs.declared.fault.FileRefusal.TheVariants.{NoMemory};
 ghost use Rattle.files.specs.Causes.{depths_in};
 ghost use Rattle.files.specs.Contents.{contents_of};
-ghost use Rattle.files.specs.Files.{output_room, NeedsMoreFor, NeedsMoreSteps, SettledFor, SettledByKind, WritesSome};
-ghost use Rattle.files.specs.Models.{GradesFor, ModelOf, Sound};
+ghost use Rattle.files.specs.CallSteps.{GradesFor, ModelOf, Sound};
+ghost use Rattle.files.specs.Files.{NeedsMoreFor, NeedsMoreSteps, SettledByKind, SettledFor, output_room};
+ghost use Rattle.files.specs.Listings.{WritesSome, filed};
 ghost use Rattle.files.specs.Reading.{capped};
-ghost use Rattle.files.specs.Settling.{filed};
 ghost use Rattle.files.specs.Tables.{AllCleared, SameRoom, SameRooms, cleared, lists_of, room_in, room_of};
 
 use crate::contents::FileContents;

@@ -4,7 +4,7 @@ ghost use Rattle.files.specs.RefusedCalls.{CallsRefused};
 
 use grades::grade::Grade;
 
-/// What the rules answer to some small files.
+/// What the rules answer to some small files, and to calls that they always refuse.
 pub fn model_answers()
     ensures { ModelAnswers }
 {}

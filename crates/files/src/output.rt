@@ -1,6 +1,6 @@
 //! Lines written at the front of an output.
 ghost use Rattle.std.specs.Prelude.{◌≡◌, ◌≤◌, [], length};
-ghost use Rattle.files.specs.Files.{Writes};
+ghost use Rattle.files.specs.Listings.{Writes};
 ghost use Rattle.files.specs.Lines.{ColumnsFit, five, ten, line_length, line_text};
 
 use fields::writing::put_number;

@@ -4,9 +4,11 @@ ghost use Rattle.meaning.specs.Solutions.{Grades};
 ghost use Rattle.surveys.specs.Opens.{Agrees, stale};
 ghost use Rattle.surveys.specs.Queried.{tree_in, table_in, opening_on};
 ghost use Rattle.surveys.specs.Standing.{Roomy, lent};
+ghost use Rattle.files.specs.Causes.{RoomFor};
+ghost use Rattle.files.specs.CallSteps.{MarksInSurvey, MarksInTable, RunLists, SetsMarks};
 ghost use Rattle.files.specs.Files.{output_room};
-ghost use Rattle.files.specs.Settling.{NeedsMore, filed};
-ghost use Rattle.files.specs.Settles.{MarksFit, MarksStand, RoomFor, ListsSettled, RunLists, RunsOut, SetsMarks};
+ghost use Rattle.files.specs.Listings.{WritesSome, filed};
+ghost use Rattle.files.specs.Settling.{NeedsMore, RunsOut, Settled};
 ghost use Rattle.files.specs.Tables.{lists_of, room_of, cleared, SameRoom};
 
 use crate::listing::write_listing;
@@ -23,7 +25,7 @@ const MOST_STEPS: u32 = 10_000;
 
 /// Sets the marks of a file in a table over `nodes` nodes, later ones over earlier ones.
 fn set_marks<G: FiledGrade>(table: &mut [G], nodes: usize, marks: &[MarkRow])
-    requires { MarksFit G.FiledGrade.number nodes (length table.old) marks.now }
+    requires { MarksInTable G.FiledGrade.number nodes (length table.old) marks.now }
     ensures { SetsMarks (filed G.Grade.kind G.FiledGrade.number) nodes marks.now table.old table.new }
 {
     for mark in marks {
@@ -78,13 +80,13 @@ pub(crate) fn settle<G: FiledGrade, S: Shape>(
     output: &mut [u8],
 ) -> Option<usize>
     requires cleared { lists_of tables.old ≡ cleared G.Grade.kind (room_of (lists_of tables.old)) }
-    requires room { RoomFor (tree_in S.Shape queried.now) (table_in queried.now) (room_of (lists_of tables.old)) }
-    requires marks { MarksStand G.FiledGrade.number (tree_in S.Shape queried.now) (table_in queried.now) marks.now }
+    requires room { RoomFor (table_in queried.now).tags (length (table_in queried.now).terms) (tree_in S.Shape queried.now).count (room_of (lists_of tables.old)) }
+    requires marks { MarksInSurvey G.FiledGrade.number (tree_in S.Shape queried.now) (table_in queried.now) marks.now }
     requires asked { asked < length (table_in queried.now).terms }
     requires output { output_room ≤ length output.old }
     ensures answer { MatchOption result
         (NeedsMore (filed G.Grade.kind G.FiledGrade.number) (tree_in S.Shape queried.now) (table_in queried.now) marks.now × (output.new ≡ output.old))
-        (ListsSettled (filed G.Grade.kind G.FiledGrade.number) (tree_in S.Shape queried.now) (table_in queried.now) marks.now asked (lists_of tables.new) output.old output.new) }
+        (WritesSome (Settled (filed G.Grade.kind G.FiledGrade.number) (tree_in S.Shape queried.now) (table_in queried.now) marks.now asked (lists_of tables.new)) output.old output.new) }
     ensures room { SameRoom (lists_of tables.old) (lists_of tables.new) }
 {
     set_marks(&mut tables.marks, queried.shape.node_count(), marks);

@@ -1,7 +1,7 @@
 //! The call on a survey file: from its bytes to the bytes of its listing.
 ghost use Rattle.std.specs.Prelude.{◌≡◌, ◌≤◌, length};
+ghost use Rattle.files.specs.CallSteps.{RowListed};
 ghost use Rattle.files.specs.Files.{FileAnswers, output_room};
-ghost use Rattle.files.specs.Listing.{RowListed};
 ghost use Rattle.files.specs.Tables.{AllCleared};
 
 use crate::causes::check;
@@ -67,10 +67,9 @@ pub fn list_file(
     }
     tables.clear();
     let listed = list_row(heap, file, tables, output);
-    let Err(FileRefusal::Fault(fault)) = listed else {
-        return listed;
-    };
-    tables.clear();
-    write_fault(output, fault);
+    if let Err(FileRefusal::Fault(fault)) = listed {
+        tables.clear();
+        write_fault(output, fault);
+    }
     listed
 }

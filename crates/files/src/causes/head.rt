@@ -1,8 +1,8 @@
 //! The check of the first line.
 ghost use Rattle.std.specs.Prelude.{◌≡◌, ◌+◌, ◌^◌, ◌<◌, ◌≤◌, Decides, MatchResult};
 ghost use Rattle.shapes.specs.Tree.{Countable};
-ghost use Rattle.files.specs.Causes.{HasRoom, node_line};
-ghost use Rattle.files.specs.Checking.{FirstOn, HeadCause, HeadStands, Checks};
+ghost use Rattle.files.specs.Causes.{HasRoom, HeadCause, node_line};
+ghost use Rattle.files.specs.Checking.{FirstOn, HeadSound, Checks};
 ghost use Rattle.files.specs.Contents.{InOrder, contents_of, lines_of};
 ghost use Rattle.files.specs.Faults.{number_of_cause};
 
@@ -15,8 +15,10 @@ use shapes::count::is_countable;
 use shapes::refusal::ShapeRefusal;
 use surveys::refusal::SurveyRefusal;
 
+/// The most tags that a query may have.
 const MOST_TAGS: u32 = 16;
 
+/// The most terms that a query may have.
 pub(super) const MOST_TERMS: u32 = 64;
 
 impl Room {
@@ -36,7 +38,7 @@ impl Room {
 impl Head {
     /// Whether nothing is wrong with the head of a file, and the first cause where something is.
     fn check(self, room: Room) -> Result<(), LineCause>
-        ensures { MatchResult result (λ _. HeadStands room self) (λ cause. FirstOn (HeadCause room self) (number_of_cause cause)) }
+        ensures { MatchResult result (λ _. HeadSound room self) (λ cause. FirstOn (HeadCause room self) (number_of_cause cause)) }
     {
         if !is_countable(self.nodes as usize) {
             return Err(ShapeRefusal::NodeCount.into());

@@ -1,7 +1,7 @@
 //! The check of the lines of the marks.
 ghost use Rattle.std.specs.Prelude.{◌≡◌, length, Decides, MatchResult};
-ghost use Rattle.files.specs.Causes.{IsGradeNumber, mark_line, term_line};
-ghost use Rattle.files.specs.Checking.{CheckedTo, Checks, FirstOn, MarkCause, MarkFits};
+ghost use Rattle.files.specs.Causes.{IsGradeNumber, MarkCause, mark_line, term_line};
+ghost use Rattle.files.specs.Checking.{CheckedTo, Checks, FirstOn, MarkSound};
 ghost use Rattle.files.specs.Contents.{contents_of};
 ghost use Rattle.files.specs.Faults.{number_of_cause};
 
@@ -26,7 +26,7 @@ impl GradeKind {
 impl MarkRow {
     /// Whether nothing is wrong with the line of a mark, and the first cause where something is.
     fn check(self, head: Head) -> Result<(), LineCause>
-        ensures { MatchResult result (λ _. MarkFits head self) (λ cause. FirstOn (MarkCause head self) (number_of_cause cause)) }
+        ensures { MatchResult result (λ _. MarkSound head self) (λ cause. FirstOn (MarkCause head self) (number_of_cause cause)) }
     {
         if !head.grades.has(self.grade) {
             return Err(FieldFault::NoGrade.into());

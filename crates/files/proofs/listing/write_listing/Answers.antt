@@ -3,7 +3,7 @@ use Rattle.std.proofs.lemmas.List.{get_or_read}
 use Rattle.std.specs.List.{flat_map}
 use borrow.Rule.Slice.PartMut.{mid_of}
 use Rattle.files.specs.Lines.{five, ten, line_text}
-use Rattle.files.specs.Settling.{ListsBelow, answer_line, selected_line, listing}
+use Rattle.files.specs.Listings.{ListsBelow, answer_line, listing, selected_line}
 use Rattle.files.proofs.Listings.{LinePut, line_put, first_written, node_passed, node_listed, line_behind}
 use Rattle.files.proofs.listing.write_listing.Goals as goal
 use Rattle.files.proofs.listing.write_listing.Goals.{then-not-same, else-not-same}
@@ -46,15 +46,13 @@ returns g c =
     let lines = flat_map (selected_line numbers) w.selected in
     let end = ap (λ x. line_text 69 (x ∷ []) []) (c.narrow-2.ensures ∙ ap five w.counted) in
     let last = line_behind l.node l.at l.count l.output w _ c.put_line.result c.put_line.new.output _ _ (omega arith) c.put_line.ensures.size c.put_line.ensures.writes
-    (append_assoc first lines (line_text 69 (c.narrow-2.result ∷ []) []) ∙ ap (λ xs. first ++ (lines ++ xs)) end) in (
-      listing (length c.args.row.now) c.args.steps numbers w.selected,
-      (
-        record {
-          selected = w.selected;
-          lists = subst (λ n. ListsBelow n (λ x. get_or c.args.row.now x lowest ≢ lowest) w.selected) all w.lists;
-          written = refl;
-        },
-        last.0,
-        last.1,
-      ),
-    )
+    (append_assoc first lines (line_text 69 (c.narrow-2.result ∷ []) []) ∙ ap (λ xs. first ++ (lines ++ xs)) end) in record {
+      text = listing (length c.args.row.now) c.args.steps numbers w.selected;
+      holds = record {
+        selected = w.selected;
+        lists = subst (λ n. ListsBelow n (λ x. get_or c.args.row.now x lowest ≢ lowest) w.selected) all w.lists;
+        written = refl;
+      };
+      is_size = last.0;
+      writes = last.1;
+    }

@@ -1,5 +1,5 @@
 use Rattle.std.proofs.Common.{◌≢◌, length, get_or}
-use Rattle.files.specs.Settling.{answer_line, selected_line}
+use Rattle.files.specs.Listings.{answer_line, selected_line}
 use Rattle.files.proofs.Listings.{WrittenBelow}
 use Rattle.files.proofs.listing.write_listing.Given as goal
 

@@ -1,7 +1,7 @@
 use Rattle.std.proofs.Common.{◌≡◌, ◌+◌, ◌≤◌, [], ◌∷◌, ◌++◌, length, get_or, set, take, sym, ap, subst, ◌∙◌, arith}
 use Rattle.std.proofs.lemmas.List.{length-append, length-take, length-drop, length-set, take_all}
 use Rattle.fields.specs.Fields.{field}
-use Rattle.files.specs.Files.{Writes}
+use Rattle.files.specs.Listings.{Writes}
 use Rattle.files.specs.Lines.{Column, columns_text, line_text}
 use Rattle.files.proofs.Columns.{column_fits, column_long, column_room, columns_more, end_room, put_fitting}
 use Rattle.files.proofs.Written.{piece_written, byte_written}

@@ -1,5 +1,5 @@
 use Rattle.std.proofs.Common.{◌≡◌, ◌∷◌, length, take}
-use Rattle.files.specs.Files.{Writes}
+use Rattle.files.specs.Listings.{Writes}
 use Rattle.files.specs.Lines.{columns_text}
 use Rattle.files.proofs.output.put_line.Given as goal
 

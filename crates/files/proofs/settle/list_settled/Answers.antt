@@ -3,7 +3,7 @@ use Rattle.queries.proofs.Questions.{rules_kept}
 use Rattle.meaning.specs.Tables.{grades_in}
 use Rattle.surveys.specs.Queried.{tree_in, opening_on}
 use Rattle.surveys.specs.Rules.{opened}
-use Rattle.files.specs.Settling.{filed}
+use Rattle.files.specs.Listings.{filed}
 use Rattle.files.proofs.LentFronts.{front_holds, stands_longer}
 use Rattle.files.proofs.Settled.{never_refused, row_length, row_read, runs_out, settles}
 use Rattle.files.proofs.ListedRows.{lists_same}
@@ -39,10 +39,12 @@ returns-clause-answer g c m agrees =
       state = ran.0;
       settles = run;
       holds = front_holds stands size run.all c.args.waiting.now c.requires.room.waiting (c.run.auto.waiting ∙ c.open.auto.waiting);
-      text = c.write_listing.ensures.0;
-      lists = lists_same (filed g.G.Grade.kind g.G.FiledGrade.number)
-          (row_length c.args.asked o.tree.count (length o.query.terms) (c.run.new.values ++ drop n c.args.values.now) c.in_ok-row.row.now c.requires.asked c.in_ok-row.ensures.causes.fits.room c.in_ok-row.ensures.row)
-          c.in_ok-steps.steps _ _ (row_read (c.in_ok-row.ensures.rules m ran.0 c.args.marks.now c.run.new.waiting stands)) c.write_listing.ensures.1.0;
-      is_size = c.write_listing.ensures.1.1;
-      writes = c.write_listing.ensures.1.2;
+      written = record {
+        text = c.write_listing.ensures.text;
+        holds = lists_same (filed g.G.Grade.kind g.G.FiledGrade.number)
+            (row_length c.args.asked o.tree.count (length o.query.terms) (c.run.new.values ++ drop n c.args.values.now) c.in_ok-row.row.now c.requires.asked c.in_ok-row.ensures.causes.fits.room c.in_ok-row.ensures.row)
+            c.in_ok-steps.steps _ _ (row_read (c.in_ok-row.ensures.rules m ran.0 c.args.marks.now c.run.new.waiting stands)) c.write_listing.ensures.holds;
+        is_size = c.write_listing.ensures.is_size;
+        writes = c.write_listing.ensures.writes;
+      };
     }

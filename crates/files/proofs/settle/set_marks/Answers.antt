@@ -2,8 +2,8 @@ use Rattle.std.proofs.Common.{get_or, set, take, sym, subst}
 use Rattle.std.proofs.lemmas.List.{take_more}
 use Rattle.meaning.specs.Tables.{place}
 use Rattle.files.specs.Causes.{no_mark}
-use Rattle.files.specs.Settles.{SetsMarks}
-use Rattle.files.specs.Settling.{filed}
+use Rattle.files.specs.CallSteps.{SetsMarks}
+use Rattle.files.specs.Listings.{filed}
 use Rattle.files.proofs.MarkRows.{set_more}
 use Rattle.files.proofs.settle.set_marks.Goals as goal
 

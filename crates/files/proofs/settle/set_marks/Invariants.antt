@@ -1,6 +1,6 @@
 use Rattle.std.proofs.Common.{take}
-use Rattle.files.specs.Settles.{SetsMarks}
-use Rattle.files.specs.Settling.{filed}
+use Rattle.files.specs.CallSteps.{SetsMarks}
+use Rattle.files.specs.Listings.{filed}
 use Rattle.files.proofs.settle.set_marks.Given as goal
 
 abbrev pub invariant-loop-mark : goal.invariant-loop-mark

@@ -5,8 +5,9 @@ use Rattle.std.proofs.lemmas.List.{with_items_is}
 use Rattle.queries.proofs.Questions.{rules_kept}
 use Rattle.surveys.specs.Queried.{tree_in, table_in}
 use Rattle.surveys.specs.Standing.{lent}
-use Rattle.files.specs.Settles.{ListsSettled, SetsMarks}
-use Rattle.files.specs.Settling.{NeedsMore, filed}
+use Rattle.files.specs.CallSteps.{SetsMarks}
+use Rattle.files.specs.Listings.{WritesSome, filed}
+use Rattle.files.specs.Settling.{NeedsMore, Settled}
 use Rattle.files.specs.Tables.{lists_of}
 use Rattle.files.proofs.SettledTables.{settled}
 use Rattle.files.proofs.TableMarks.{marks_in, marks_agree, marks_behind, marks_of}
@@ -36,7 +37,7 @@ returns-clause-answer g c =
     let set : SetsMarks k t.count rows (vec_items tables.marks) c.set_marks.new.table = subst₂ (λ n xs. SetsMarks k n rows xs c.set_marks.new.table) c.node_count.ensures c.deref_mut.ensures.value c.set_marks.ensures in
     let set' : SetsMarks k t.count rows (vec_items tables.marks) table = subst (λ xs. SetsMarks k t.count rows (vec_items tables.marks) xs) same set in
     let long : length table ≡ length (vec_items tables.marks) = ap length (sym same) ∙ (c.set_marks.auto.table ∙ ap length c.deref_mut.ensures.value) in
-    subst (λ l. MatchOption c.unwrap.result (NeedsMore k t q rows × (c.list_settled.new.output ≡ c.args.output.now)) (ListsSettled k t q rows c.args.asked l c.args.output.now c.list_settled.new.output)) (sym left)
+    subst (λ l. MatchOption c.unwrap.result (NeedsMore k t q rows × (c.list_settled.new.output ≡ c.args.output.now)) (WritesSome (Settled k t q rows c.args.asked l) c.args.output.now c.list_settled.new.output)) (sym left)
     (settled k rows c.args.asked {before = lists_of tables} c.args.output.now c.list_settled.new.output c.unwrap.result (marks_in k.kind t q table)
     (marks_of k t q rows c.requires.marks _ (vec_items tables.marks) table clear set' c.requires.room.marks)
     (record { kind = g.met.G.Grade.laws; tree = laws; admitted = rules_kept c.args.queried.now.query.now })

@@ -1,9 +1,8 @@
-use Rattle.std.proofs.Common.{◌≡◌, Err, arith}
+use Rattle.std.proofs.Common.{◌≡◌, Err, arith, rules}
 use Rattle.std.proofs.lemmas.Grind.{common_steps}
 use Rattle.files.specs.declared.fault.FileRefusal.TheVariants.{Fault}
 use Rattle.files.specs.Faults.{number_of_file, line_of_file}
-use Rattle.files.specs.Files.{Writes}
-use Rattle.files.specs.Settling.{fault_line}
+use Rattle.files.specs.Listings.{Writes, fault_line}
 use Rattle.files.specs.Tables.{room_in}
 use Rattle.files.proofs.Clearings.{answered, refuses_then, cleared_again}
 use Rattle.files.proofs.FaultLines.{line_bounded}
@@ -16,12 +15,12 @@ write_fault-requires-clause-line c =
     let h = rw e at c.list_row-listed.ensures in
     omega (arith, line_bounded (room_in c.clear.new.self) c.args.file.now (number_of_file fault) (line_of_file fault) h.0.1)
 
-pub returns-in_default-2 : goal.returns-in_default-2
-returns-in_default-2 c = answered c.args.tables.now c.clear.new.self c.clear.ensures c.args.file.now c.list_row-listed.new.tables c.args.output.now c.list_row-listed.new.output
+pub returns-else-output-lt-OUTPUT_ROOM-2 : goal.returns-else-output-lt-OUTPUT_ROOM-2
+returns-else-output-lt-OUTPUT_ROOM-2 c = answered c.args.tables.now c.clear.new.self c.clear.ensures c.args.file.now c.list_row-listed.new.tables c.args.output.now c.list_row-listed.new.output
     c.list_row-listed.result c.if-output-lt-OUTPUT_ROOM.false (λ f e. grind (arith, common_steps)) c.list_row-listed.ensures
 
-pub returns : goal.returns
-returns c =
+pub returns-in-Err-Fault : goal.returns-in-Err-Fault
+returns-in-Err-Fault c =
     let t = c.args.tables.now in
     let t1 = c.clear.new.self in
     let file = c.args.file.now in
@@ -32,6 +31,6 @@ returns c =
     rw e (
       c.if-output-lt-OUTPUT_ROOM.false,
       refuses_then t t1 c.clear.ensures file (number_of_file fault) (line_of_file fault) h.0.1,
-      cleared_again t t1 c.clear.ensures c.list_row-listed.new.tables c.clear-2.new.self h.0.0 c.clear-2.ensures,
+      cleared_again t t1 c.clear.ensures c.list_row-listed.new.tables _ h.0.0 (search rules),
       writes,
     )

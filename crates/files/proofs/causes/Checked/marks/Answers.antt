@@ -1,6 +1,6 @@
 use Rattle.std.proofs.Common.{◌<◌, ◌≤◌, length, get_or, ap, subst, below_more, arith}
-use Rattle.files.specs.Causes.{mark_at, no_mark}
-use Rattle.files.specs.Checking.{FirstOn, MarkCause, MarkFits}
+use Rattle.files.specs.Causes.{mark_at, no_mark, MarkCause}
+use Rattle.files.specs.Checking.{FirstOn, MarkSound}
 use Rattle.files.specs.Contents.{contents_of}
 use Rattle.files.specs.Faults.{number_of_cause}
 use Rattle.files.proofs.Firsts.{mark_fine}
@@ -11,8 +11,8 @@ use Rattle.files.proofs.causes.Checked.marks.Goals as goal
 pub loop-i-preserved : goal.loop-i-preserved
 loop-i-preserved c =
     let it = contents_of c.args.self.contents.now in
-    below_more (λ j. MarkFits it.head (mark_at it j)) c.loop-i.i c.loop-i.invariant
-    (subst (λ ms. MarkFits it.head (get_or ms c.loop-i.i no_mark)) c.deref-mark-items.ensures.value c.in_default.ensures)
+    below_more (λ j. MarkSound it.head (mark_at it j)) c.loop-i.i c.loop-i.invariant
+    (subst (λ ms. MarkSound it.head (get_or ms c.loop-i.i no_mark)) c.deref-mark-items.ensures.value c.in_default.ensures)
 
 pub returns-in-Err : goal.returns-in-Err
 returns-in-Err c =

@@ -14,7 +14,7 @@ returns-in-Some c =
     let checked = c.requires.checked in
     let x = c.in-Some.node in
     λ rest. found_at c.args.self.room it in_nodes x rest (there c.args.self.room it checked x fault) (none_before c.args.self.room it checked x fault rest)
-    c.from.result c.line_of_node.result c.at.result c.at.ensures c.line_of_node.ensures (rw c.from.ensures (fault_first c.args.self.room it checked x fault))
+    c.from-cause.result c.line_of_node.result c.at.result c.at.ensures c.line_of_node.ensures (rw c.from-cause.ensures (fault_first c.args.self.room it checked x fault))
 
 pub returns-in-None : goal.returns-in-None
 returns-in-None c = nodes_pass c.args.self.room (contents_of c.args.self.contents.now) c.requires.checked (subst LawfulDepths c.requires.depths c.in-None.ensures)

@@ -1,10 +1,9 @@
-use Rattle.std.proofs.Common.{◌≡◌, ◌-◌, length, subst, arith}
+use Rattle.std.proofs.Common.{◌-◌, subst, arith}
 use Rattle.queries.specs.declared.refusal.QueryRefusal.TheVariants.{BadBlock, BlockSum}
 use Rattle.queries.specs.Admission.{Breaks}
-use Rattle.files.specs.Causes.{rows_in}
+use Rattle.files.specs.Causes.{rows_in, block, sum}
 use Rattle.files.specs.Contents.{contents_of}
 use Rattle.files.proofs.Query.{blocks_there, block_found, term_refused, missing_pass}
-use Rattle.files.proofs.Sections.{block, sum}
 use Rattle.files.proofs.causes.Checked.refused_line.Goals as goal
 
 pub returns-in-BadBlock : goal.returns-in-BadBlock
@@ -17,7 +16,6 @@ pub returns-in-BlockSum : goal.returns-in-BlockSum
 returns-in-BlockSum c =
     let it = contents_of c.args.self.contents.now in
     let b : Breaks (rows_in it) BlockSum = subst (Breaks (rows_in it)) c.in-BlockSum.is c.requires.breaks in
-    let many : c.len-blocks.result ≡ length it.blocks = omega arith in
     let there = blocks_there c.args.self.room it c.requires.checked (omega (arith, c.if-blocks-self.true)) in
     rw (c.in-BlockSum.is, c.line_of_block-in-BlockSum.ensures) (block_found c.args.self.room it c.requires.checked (c.len-blocks.result - 1)
     (omega (arith, c.requires.checked.head.fits.some_block, there.1))

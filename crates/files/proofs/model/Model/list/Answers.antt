@@ -1,6 +1,6 @@
 use Rattle.std.proofs.Common.{subst, sym}
 use Rattle.grades.specs.Filed.{yes_no_number, stage_set_number}
-use Rattle.files.specs.Models.{GradesFor}
+use Rattle.files.specs.CallSteps.{GradesFor}
 use Rattle.files.proofs.Models.{yes_no_grades, stage_set_grades}
 use Rattle.files.proofs.model.Model.list.Goals as goal
 
