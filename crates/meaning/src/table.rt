@@ -18,8 +18,9 @@ impl<'a, G: Grade> GradeTable<'a, G> {
     pub fn at(&self, row: usize, node: usize) -> Option<G>
         ensures { SomeIff result (place self.now.nodes row node < length self.now.grades.now) (grades_in G.kind self.now.nodes self.now.grades.now row node) }
     {
-        let at = row.checked_mul(self.nodes)?.checked_add(node)?;
-        self.grades.get(at).copied()
+        // In 128 bits no place is too great.
+        let at = row as u128 * self.nodes as u128 + node as u128;
+        self.grades.get(usize::try_from(at).ok()?).copied()
     }
 
     /// The grade of a row at a neighbour, or another where there is no neighbour; none outside the table.

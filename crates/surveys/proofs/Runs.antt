@@ -1,10 +1,11 @@
 -- Steps in a row, each held to the rules, are a run of the rules.
-use Rattle.std.proofs.Common.{◌≡◌, ℕ, suc, ◌+◌, ◌*◌, ◌<◌, ◌≤◌, Bool, true, false, T, List, [], ◌∷◌, ◌++◌, length, get_or, sym, refl, ap, ◌∙◌, subst, add-one, arith}
+use Rattle.std.proofs.Common.{◌≡◌, ℕ, suc, ◌+◌, ◌*◌, ◌<◌, ◌≤◌, Bool, true, false, T, List, [], ◌∷◌, ◌++◌, length, get_or, Option, Some, None, sym, refl, ap, ◌∙◌, subst, ap₂, add-one, arith}
 use Rattle.std.proofs.lemmas.List.{length_push, get_or_append_left, get_or_push}
 use Rattle.grades.specs.Kind.{Kind, Says}
 use Rattle.shapes.specs.Tree.{Tree}
 use Rattle.queries.specs.Table.{Table}
 use Rattle.meaning.specs.Solutions.{Grades}
+use Rattle.queues.specs.Calls.{head_of}
 use Rattle.queues.specs.Within.{Within}
 use Rattle.queues.proofs.Within.{within_same}
 use Rattle.surveys.specs.declared.refusal.SurveyRefusal.{SurveyRefusal}
@@ -16,8 +17,8 @@ use Rattle.surveys.specs.Calls.Answer.{stepped, ran, refused}
 use Rattle.surveys.specs.Held.{ByRules, AlteredAtMost, WaitsWithin}
 use Rattle.surveys.specs.Promise.{opening}
 use Rattle.surveys.specs.Running.{RunsWithin}
-use Rattle.surveys.specs.Standing.{Lent, Stands}
-use Rattle.surveys.specs.Stepping.{AllFlagged}
+use Rattle.surveys.specs.Standing.{Lent, Fits, Stands}
+use Rattle.surveys.specs.Stepping.{AllFlagged, Stored, Worked}
 use Rattle.surveys.proofs.Waiting.{waits_same, waits_both}
 
 -- a table that was altered in n places, and then in one more
@@ -104,3 +105,22 @@ run_refused {G} {k} {t} {q} {v} {v₁} {v₂} {l} {l₁} {l₂} most n all why f
 
 pub runs_within : {G : Type 0} {k : Kind G} {t : Tree} {q : Table} {v v' : Survey} {l l' : Lent G} {n : ℕ} (most : ℕ) → n ≤ most → Made k t q n v l v' l' → RunsWithin most n l l'
 runs_within most few h = record { few = few; values = h.values }
+
+-- a step leaves the counts and the lengths of the tables
+pub fits_kept : {G : Type 0} {k : Kind G} {t : Tree} {q : Table} {v v' : Survey} {l l' : Lent G} (all : Bool) → Worked k t q v l v' l' all → l'.marks ≡ l.marks → length l'.values ≡ length l.values → length l'.waiting ≡ length l.waiting → Fits v t.count (length q.terms) l → Fits v' t.count (length q.terms) l'
+fits_kept {t = t} {q} {v} {v'} {l} {l'} all w marks values waiting fits = counted (head_of w.left) w.stored
+  where
+    roomy : (u : Survey) → u.nodes ≡ v.nodes → u.tags ≡ v.tags → u.terms ≡ v.terms → Fits u t.count (length q.terms) l'
+    roomy u nodes tags terms = record {
+      same_nodes = nodes ∙ fits.same_nodes;
+      same_terms = terms ∙ fits.same_terms;
+      roomy = record {
+        marks = omega (arith, fits.roomy.marks, ap₂ (λ a b. a * b) tags nodes, ap length marks);
+        values = omega (arith, fits.roomy.values, ap₂ (λ a b. a * b) terms nodes, values);
+        waiting = omega (arith, fits.roomy.waiting, ap₂ (λ a b. a * b) terms nodes, waiting);
+      };
+    }
+
+    counted : (o : Option ℕ) → Stored o v (record { block = w.works_off.work.block; queue = w.left }) v' all → Fits v' t.count (length q.terms) l'
+    counted None stored = subst (λ u. Fits u t.count (length q.terms) l') (sym stored.0) (roomy _ refl refl refl)
+    counted (Some e) stored = subst (λ u. Fits u t.count (length q.terms) l') (sym stored.0) (roomy _ refl refl refl)

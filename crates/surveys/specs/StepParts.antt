@@ -1,15 +1,24 @@
 -- What the parts of a step find and leave.
-use Rattle.std.specs.Prelude.{◌≡◌, ℕ, ◌<◌, List, [], ◌++◌, ◌≢◌}
+use Rattle.std.specs.Prelude.{◌≡◌, ℕ, ◌*◌, ◌<◌, Bool, List, length, Result, [], ◌++◌, ◌≢◌}
 use Rattle.std.specs.List.{AllByRecursion}
 use Rattle.grades.specs.Kind.{Kind}
+use Rattle.shapes.specs.declared.shape.Shape.{Ghosts}
 use Rattle.shapes.specs.Tree.{Tree}
 use Rattle.queries.specs.Queries.{ListsReaders}
 use Rattle.queries.specs.Table.{Table}
 use Rattle.queues.specs.declared.queue.Queue.{Queue}
 use Rattle.queues.specs.Threads.{Threads}
+use Rattle.queues.specs.Within.{Within}
+use Rattle.surveys.specs.declared.queried.QueriedShape.{QueriedShape}
+use Rattle.surveys.specs.declared.refusal.SurveyRefusal.{SurveyRefusal}
+use Rattle.surveys.specs.declared.survey.Survey.{Survey}
 use Rattle.surveys.specs.declared.survey.Work.{Work}
 use Rattle.surveys.specs.declared.survey.upcoming.HeadEntry.{HeadEntry}
-use Rattle.surveys.specs.Stepping.{first_of, term_of, node_of, Heads, Evaluates, gives}
+use Rattle.surveys.specs.Calls.Call.{step}
+use Rattle.surveys.specs.Held.{of_step, AlteredAtMost, WaitsWithin}
+use Rattle.surveys.specs.Queried.{tree_in, table_in, KeepsRules}
+use Rattle.surveys.specs.Standing.{Lent}
+use Rattle.surveys.specs.Stepping.{first_of, term_of, node_of, Heads, Evaluates, gives, StepAnswers}
 use Rattle.surveys.specs.Waking.{woken, added_by}
 
 -- the entry e of block b
@@ -38,3 +47,11 @@ pub record Requeued {G : Type 0} (t : Tree) (q : Table) (h : HeadEntry) (old new
 -- the entries of the readers are below the size of the queue
 abbrev pub WokenInside : Tree → Table → HeadEntry → ℕ → Type 0
 WokenInside t q h size = (readers : List ℕ) → ListsReaders q h.term readers → AllByRecursion (λ e. e < size) (woken t q h.first h.node readers)
+
+-- what a step keeps, together
+pub record StepKeeps {G S : Type 0} (k : Kind G) (g : Ghosts S) (x : QueriedShape S) (v : Survey) (l : Lent G) (v' : Survey) (l' : Lent G) (answer : Result Bool SurveyRefusal) : Type 0 where
+  pub rules : KeepsRules k g x step (of_step answer) v l v' l'
+  pub refusals : StepAnswers k (tree_in g x) (table_in x) v l v' l' answer
+  pub values : Within (length (table_in x).terms * (tree_in g x).count) l.values l'.values
+  pub waiting : WaitsWithin (length (table_in x).terms * (tree_in g x).count) v l.waiting v' l'.waiting
+  pub bounded : AlteredAtMost 1 l.values l'.values

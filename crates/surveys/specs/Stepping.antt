@@ -26,6 +26,10 @@ pub record FirstStale (v : Survey) (b : ℕ) : Type 0 where
   pub stale : flag v b ≡ false
   pub before : (c : ℕ) → c < b → flag v c ≡ true
 
+-- the survey with this as the current work
+abbrev pub with_current : Survey → Option Work → Survey
+with_current v current = record { nodes = v.nodes; tags = v.tags; terms = v.terms; blocks = v.blocks; settled = v.settled; current = current }
+
 -- no block is current, and all are settled
 pub record NothingLeft (v : Survey) : Type 0 where
   pub none_current : v.current ≡ None
@@ -76,7 +80,7 @@ abbrev pub closed : Survey → ℕ → Survey
 closed v b = record { nodes = v.nodes; tags = v.tags; terms = v.terms; blocks = v.blocks; settled = slice_set v.settled b true; current = None }
 
 abbrev pub working_on : Survey → Work → Survey
-working_on v w = record { nodes = v.nodes; tags = v.tags; terms = v.terms; blocks = v.blocks; settled = v.settled; current = Some w }
+working_on v w = with_current v (Some w)
 
 -- what is left of the work is stored: the block is closed where no entry waits
 abbrev pub Stored : Option ℕ → Survey → Work → Survey → Bool → Type 0

@@ -36,11 +36,21 @@ impl Survey {
         ensures waiting { WaitsWithin (length (table_in queried.now).terms * S.count queried.now.shape.now) self.old waiting.old self.new waiting.new }
     {
         self.check_fits(queried, marks, values, waiting)?;
+        // The call fits once for all steps, since none changes the counts or how long the tables are.
+        let mut survey = *self;
+        let mut current = self.current;
+        let QueriedShape { shape, query } = *queried;
+        let here = QueriedShape { shape, query };
         for made in 0..most {
-            if self.step(queried, marks, values, waiting).is_err() {
+            let answer = survey.work_step(&mut current, &here, marks, values, waiting);
+            if answer.is_err() {
+                survey.current = current;
+                *self = survey;
                 return Ok((made, self.first_stale().is_none()));
             }
         }
+        survey.current = current;
+        *self = survey;
         Ok((most, self.first_stale().is_none()))
     }
 }

@@ -7,9 +7,9 @@ ghost use Rattle.queues.specs.Within.{Within};
 ghost use Rattle.surveys.specs.Calls.Call.{step as stepping};
 ghost use Rattle.surveys.specs.Held.{of_step, AlteredAtMost, WaitsWithin};
 ghost use Rattle.surveys.specs.Queried.{tree_in, table_in, KeepsRules};
-ghost use Rattle.surveys.specs.Standing.{lent};
-ghost use Rattle.surveys.specs.StepParts.{Requeued, WokenInside};
-ghost use Rattle.surveys.specs.Stepping.{StepAnswers, Stored};
+ghost use Rattle.surveys.specs.Standing.{Fits, lent};
+ghost use Rattle.surveys.specs.StepParts.{Requeued, StepKeeps, WokenInside};
+ghost use Rattle.surveys.specs.Stepping.{StepAnswers, Stored, with_current};
 
 use crate::queried::QueriedShape;
 use crate::refusal::SurveyRefusal;
@@ -40,8 +40,8 @@ impl<S: Shape> QueriedShape<'_, S> {
             (rest l) waiting.new queue.new }
         ensures stays { StaysWithin queue.old waiting.old queue.new waiting.new }
     {
-        let _ = queue.take(waiting);
         let at = entry.term * self.shape.node_count() + entry.node;
+        let _ = queue.take(waiting);
         if !put(values, at, grade) {
             return;
         }
@@ -68,19 +68,45 @@ impl Survey {
     /// Stores what is left of the work, and answers whether all blocks are settled.
     ///
     /// The block is settled where none of its entries waits.
-    fn store(&mut self, work: Work) -> bool
-        ensures { Stored (head_of work.queue) self.old work self.new result }
+    fn store(&mut self, current: &mut Option<Work>, work: Work) -> bool
+        ensures { Stored (head_of work.queue) (with_current self.old current.old) work (with_current self.new current.new) result }
     {
         if !work.is_done() {
-            self.current = Some(work);
+            *current = Some(work);
             return false;
         }
         // No `get_mut`: of an array that is written through it the library's contract says only the length.
         if work.block < self.settled.len() {
             self.settled[work.block] = true;
         }
-        self.current = None;
+        *current = None;
         self.first_stale().is_none()
+    }
+
+    /// Works off one entry, where the call fits the survey.
+    // The current work comes apart from the survey, so that a run need not keep it in memory: flags that are asked by number lie there.
+    pub(super) fn work_step<G: Grade, S: Shape>(
+        &mut self,
+        current: &mut Option<Work>,
+        queried: &QueriedShape<'_, S>,
+        marks: &[G],
+        values: &mut [G],
+        waiting: &mut [u32],
+    ) -> Result<bool, SurveyRefusal>
+        requires { Fits (with_current self.old current.old) (S.count queried.now.shape.now) (length (table_in queried.now).terms)
+            (lent marks.now values.old waiting.old) }
+        ensures { StepKeeps G.kind S.Shape queried.now
+            (with_current self.old current.old) (lent marks.now values.old waiting.old)
+            (with_current self.new current.new) (lent marks.now values.new waiting.new) result }
+    {
+        let Some(mut work) = self.next_work(*current, queried) else {
+            return Err(SurveyRefusal::AllSettled);
+        };
+        let Some(next) = queried.evaluated(&work, marks, values) else {
+            return Err(SurveyRefusal::ForeignEntry);
+        };
+        queried.work_off(next.entry, next.grade, &mut work.queue, values, waiting);
+        Ok(self.store(current, work))
     }
 
     /// Works off one entry: of the current block, or where there is none of the lowest stale one.
@@ -105,13 +131,9 @@ impl Survey {
         ensures bounded { AlteredAtMost 1 values.old values.new }
     {
         self.check_fits(queried, marks, values, waiting)?;
-        let Some(mut work) = self.next_work(queried) else {
-            return Err(SurveyRefusal::AllSettled);
-        };
-        let Some(next) = queried.evaluated(&work, marks, values) else {
-            return Err(SurveyRefusal::ForeignEntry);
-        };
-        queried.work_off(next.entry, next.grade, &mut work.queue, values, waiting);
-        Ok(self.store(work))
+        let mut current = self.current;
+        let answer = self.work_step(&mut current, queried, marks, values, waiting);
+        self.current = current;
+        answer
     }
 }

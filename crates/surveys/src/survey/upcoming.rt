@@ -3,7 +3,7 @@ ghost use Rattle.std.specs.Prelude.{◌≡◌, ℕ, ◌*◌, MatchOption};
 ghost use Rattle.queries.specs.Table.{blocks_terms};
 ghost use Rattle.surveys.specs.Queried.{tree_in, table_in};
 ghost use Rattle.surveys.specs.StepParts.{Headed, Evaluated};
-ghost use Rattle.surveys.specs.Stepping.{flag, AllFlagged, FirstStale, NothingLeft, TakesUp, Heads, Evaluates};
+ghost use Rattle.surveys.specs.Stepping.{flag, AllFlagged, FirstStale, NothingLeft, TakesUp, Heads, Evaluates, with_current};
 
 use crate::queried::QueriedShape;
 use crate::survey::{Survey, Work};
@@ -92,12 +92,17 @@ impl Survey {
         (0..self.blocks).find(|&block| !self.is_settled(block))
     }
 
-    /// The current work, or that of the lowest stale block from its start; none where all blocks are settled.
+    /// The work that is current, or that of the lowest stale block from its start; none where all blocks are settled.
     #[tactic(auto, using(crate::proofs::Upcoming::takes_up))]
-    pub(super) fn next_work<S: Shape>(&self, queried: &QueriedShape<'_, S>) -> Option<Work>
-        ensures { MatchOption result (NothingLeft self.now) (λ w. TakesUp (table_in queried.now) (S.count queried.now.shape.now) self.now w) }
+    pub(super) fn next_work<S: Shape>(
+        &self,
+        current: Option<Work>,
+        queried: &QueriedShape<'_, S>,
+    ) -> Option<Work>
+        ensures { let v = with_current self.now current in
+            MatchOption result (NothingLeft v) (λ w. TakesUp (table_in queried.now) (S.count queried.now.shape.now) v w) }
     {
-        if let Some(work) = self.current {
+        if let Some(work) = current {
             return Some(work);
         }
         let block = self.first_stale()?;

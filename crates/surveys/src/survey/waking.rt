@@ -39,6 +39,8 @@ impl<S: Shape> QueriedShape<'_, S> {
     }
 
     /// Puts the entries of these readers that read their operand at this node at the back of the queue, each unless it waits already.
+    // Within a step, so that the queue need not lie in memory.
+    #[inline(always)]
     pub(super) fn wake(
         &self,
         first: usize,
