@@ -1,5 +1,5 @@
 -- What a caller's proof wants of the list of those that wait.
-use Rattle.std.proofs.Common.{◌≡◌, ℕ, ◌-◌, ◌<◌, ◌≤◌, List, [], ◌∷◌, ◌++◌, length, get_or, Some, sym, refl, ap, ◌∙◌, subst, inr, ⊎_elim, arith}
+use Rattle.std.proofs.Common.{◌≡◌, ℕ, ◌-◌, ◌<◌, ◌≤◌, Bool, true, false, ◌⊎◌, List, [], ◌∷◌, ◌++◌, length, get_or, Some, None, MatchBool, sym, refl, ap, ◌∙◌, subst, inl, inr, ⊎_elim, arith}
 use Rattle.std.specs.List.{range_with_len, AllByRecursion}
 use Rattle.std.proofs.lemmas.List.{append-nil}
 use Rattle.std.proofs.ByRecursion.{All-append, All-weaker}
@@ -67,3 +67,19 @@ threads_done w q t k lt =
 pub first_some : (l : List ℕ) (e : ℕ) → Some e ≡ first l → l ≡ e ∷ rest l
 first_some [] e h = cc
 first_some (x ∷ l) e h = cc
+
+pub first_none : (l : List ℕ) → None ≡ first l → l ≡ []
+first_none [] e = refl
+first_none (x ∷ l) e = cc
+
+-- who waits after a take: all but the entry that was taken
+pub rest_in : (l : List ℕ) (e k : ℕ) → Some e ≡ first l → In k l → (e ≡ k) ⊎ In k (rest l)
+rest_in l e k h i = subst (λ m. In k m) (first_some l e h) i
+
+-- who waits after a put, whatever it answered: the entry, and who waited before
+pub put_in : (w : List ℕ) (q : Queue) (l : List ℕ) (e : ℕ) (r : Bool) → MatchBool r ((In e l → ⊥) × Threads w q (l ++ e ∷ [])) (In e l × Threads w q l) → (m : List ℕ) × Threads w q m × In e m × ((k : ℕ) → In k l → In k m)
+put_in w q l e true h = (l ++ e ∷ [], h.1, entries.append_in e l (e ∷ []) (inr (inl refl)), λ k i. entries.append_in k l (e ∷ []) (inl i))
+put_in w q l e false h = (l, h.1, h.0, λ k i. i)
+
+pub in_push : (k : ℕ) (l : List ℕ) (e : ℕ) → In k (l ++ e ∷ []) → In k l ⊎ (e ≡ k)
+in_push k l e i = ⊎_elim inl (⊎_elim inr (λ n. absurd n)) (entries.in_append k l (e ∷ []) i)
