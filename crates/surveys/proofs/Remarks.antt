@@ -11,6 +11,7 @@ use Rattle.meaning.proofs.Admitted.{block_stands}
 use Rattle.surveys.specs.declared.refusal.SurveyRefusal.TheVariants.{NotInSurvey}
 use Rattle.surveys.specs.declared.survey.Survey.{Survey}
 use Rattle.surveys.specs.declared.survey.Work.{Work}
+use Rattle.surveys.specs.Calls.{Call, Answer}
 use Rattle.surveys.specs.Calls.Answer.{altered, refused}
 use Rattle.surveys.specs.Calls.Call.{retag}
 use Rattle.surveys.specs.Calls.Does.{retags, leaves, no_such_mark}
@@ -41,12 +42,18 @@ queue_of None queue = []
 queue_of (Some work) queue = queue
 
 module _ {G : Type 0} (o : Opening G) (s : State G) (v : Survey) (l : Lent G) (st : Stands o s v l) where
+  pub stands_fits : Fits v o.tree.count (length o.query.terms) l
+  stands_fits = record { same_nodes = st.counted.nodes; same_terms = st.counted.terms; roomy = st.roomy }
+
   -- the mark that the rules have is that of the table
   mark_held : (tag node : ℕ) → node < v.nodes → tag < v.tags → grades_in o.kind v.nodes l.marks tag node ≡ s.marks tag node
   mark_held tag node hn ha = rw st.counted.nodes (st.marks tag node (omega (arith, st.counted.tags)) (omega (arith, st.counted.nodes)))
 
 -- the retags that alter nothing
 module _ {G : Type 0} (o : Opening G) (v : Survey) (l : Lent G) (node tag : ℕ) (grade : G) where
+  pub unfit_by_rules : (Fits v o.tree.count (length o.query.terms) l → ⊥) → (call : Call G) (answer : Answer G) (v' : Survey) (l' : Lent G) → ByRules o call answer v l v' l'
+  unfit_by_rules unfit call answer v' l' s st = absurd (unfit (stands_fits o s v l st))
+
   pub absent_by_rules : ((node < v.nodes) × (tag < v.tags) → ⊥) → ByRules o (retag node tag grade) (refused NotInSurvey) v l v l
   absent_by_rules absent s st = (s, (no_such_mark node tag grade (outside (cases_lt node v.nodes) (cases_lt tag v.tags)), st))
     where

@@ -12,7 +12,7 @@ use Rattle.queues.specs.Threads.{first, In as Waits}
 use Rattle.queues.specs.Within.{Within}
 use Rattle.queues.proofs.Lists.{head_first}
 use Rattle.queues.proofs.Uses.{threads_below}
-use Rattle.surveys.specs.declared.refusal.SurveyRefusal.TheVariants.{AllSettled, ForeignEntry}
+use Rattle.surveys.specs.declared.refusal.SurveyRefusal.TheVariants.{TableOrCounts, AllSettled, ForeignEntry}
 use Rattle.surveys.specs.declared.survey.Survey.{Survey}
 use Rattle.surveys.specs.declared.survey.Work.{Work}
 use Rattle.surveys.specs.declared.survey.upcoming.HeadEntry.{HeadEntry}
@@ -21,7 +21,8 @@ use Rattle.surveys.specs.Calls.Call.{step}
 use Rattle.surveys.specs.Calls.Does.{nothing_left}
 use Rattle.surveys.specs.Held.{ByRules, AlteredAtMost}
 use Rattle.surveys.specs.Promise.{opening}
-use Rattle.surveys.specs.Standing.{Lent, lent, Fits}
+use Rattle.surveys.specs.Rules.{Opening, State}
+use Rattle.surveys.specs.Standing.{Lent, lent, Fits, Stands}
 use Rattle.surveys.specs.StepParts.{Evaluated}
 use Rattle.surveys.specs.Stepping.{FirstStale, NothingLeft, TakesUp, begun, term_of, node_of, Evaluates, gives, WorksOff}
 use Rattle.surveys.specs.Stepping.TakesUp.{goes_on, begins}
@@ -29,6 +30,7 @@ use Rattle.surveys.proofs.Advances.{WorkedOff, advances}
 use Rattle.surveys.proofs.Engine.{TakenUp, taken_up, readable}
 use Rattle.surveys.proofs.Placed.{place_inside}
 use Rattle.surveys.proofs.Numbering.{entry_of_number}
+use Rattle.surveys.proofs.Remarks.{stands_fits}
 use Rattle.surveys.proofs.Spanning.{term_stands}
 
 -- tables with at most one place altered
@@ -87,6 +89,10 @@ pub takes_so : {G : Type 0} (k : Kind G) (t : Tree) (q : Table) (l : Lent G) (w 
     values ≡ set l.values (place t.count (term_of q t.count w.block ev.entry) (node_of t.count ev.entry)) (gives k t q l.marks l.values w.block ev.entry)
 takes_so k t q l w h grade values ev is = is ∙ ap₂ (λ (h : HeadEntry) g. set l.values (place t.count h.term h.node) g) ev.is ev.graded
 
+-- a survey that holds a state fits
+stand_fits : {G : Type 0} (o : Opening G) (s : State G) (v : Survey) (l : Lent G) → Stands o s v l → Fits v o.tree.count (length o.query.terms) l
+stand_fits = stands_fits
+
 -- some entry waits, and can be worked off
 some_first : (m : List ℕ) → (m ≡ [] → ⊥) → (e : ℕ) × (first m ≡ Some e)
 some_first [] h = absurd (h refl)
@@ -97,6 +103,9 @@ first_in [] e h = cc
 first_in (x ∷ m) e h = inl (cc)
 
 module _ {G : Type 0} (k : Kind G) (t : Tree) (q : Table) (a : Admitted q) (laws : TreeLaws t) (v : Survey) (l : Lent G) (m : Grades G) where
+  pub other_counts : (Fits v t.count (length q.terms) l → ⊥) → ByRules (opening k t q m) step (refused TableOrCounts) v l v l
+  other_counts fits s stands = absurd (fits (stand_fits (opening k t q m) s v l stands))
+
   pub all_settled : NothingLeft v → ByRules (opening k t q m) step (refused AllSettled) v l v l
   all_settled none s stands = (s, (nothing_left (λ b h. subst T (sym (none.all_flagged b (omega (arith, stands.counted.blocks))) ∙ stands.settled b h) tt), stands))
 
