@@ -1,9 +1,10 @@
 -- Terms dealt into blocks in order.
-use Rattle.std.proofs.Common.{◌≡◌, ℕ, zero, suc, ◌+◌, ◌-◌, ◌<◌, ◌≤◌, List, [], ◌∷◌, map, length, get_or, take, fold, min, ap, ◌∙◌, inl, inr, add-one, arith}
+use Rattle.std.proofs.Common.{◌≡◌, ℕ, zero, suc, ◌+◌, ◌-◌, ◌<◌, ◌≤◌, List, [], ◌∷◌, map, length, get_or, take, fold, min, refl, ap, ◌∙◌, inl, inr, add-one, arith}
+use Rattle.std.proofs.lemmas.List.{length-map, get_or-map, take_all}
 use Rattle.std.proofs.lemmas.Bool.{cases_lt, lt-ltb, le-ltb}
 use Rattle.queries.specs.declared.block.Block.{Block}
 use Rattle.queries.specs.declared.rows.BlockRow.{BlockRow}
-use Rattle.queries.specs.Rows.{block_in}
+use Rattle.queries.specs.Rows.{block_in, no_row}
 use Rattle.queries.specs.Table.{dealt, total, no_block}
 
 dealt_here : (b : Block) (bs : List Block) (i : ℕ) → i < b.terms → dealt (b ∷ bs) i ≡ 0
@@ -43,6 +44,11 @@ dealt_in (b ∷ bs) i h = elim (cases_lt i b.terms) [ inl l ↦ here l | inr l �
     later : b.terms ≤ i → Dealt bs (i - b.terms) (dealt bs (i - b.terms)) → Dealt (b ∷ bs) i (dealt (b ∷ bs) i)
     later l d = rw (dealt_later b bs i l) (record { stands = omega arith; low = omega arith; high = omega arith })
 
+-- past all blocks there is none
+pub dealt_past : (bs : List Block) (i : ℕ) → total bs ≤ i → dealt bs i ≡ length bs
+dealt_past [] i h = refl
+dealt_past (b ∷ bs) i h = dealt_later b bs i (omega arith) ∙ ap suc (dealt_past bs (i - b.terms) (omega arith))
+
 -- blocks rise with terms
 pub dealt_rises : (bs : List Block) (i j : ℕ) → i ≤ j → dealt bs i ≤ dealt bs j
 dealt_rises [] i j h = omega arith
@@ -60,6 +66,31 @@ before_le [] zero = omega arith
 before_le [] (suc k) = omega arith
 before_le (b ∷ bs) zero = omega arith
 before_le (b ∷ bs) (suc k) = omega (arith, before_le bs k)
+
+-- a term is dealt before block k just where it stands before that block's terms
+pub dealt_before : (bs : List Block) (k i : ℕ) → k ≤ length bs → i < before bs k → dealt bs i < k
+dealt_before [] k i h low = absurd (omega (arith, before_le [] k))
+dealt_before (b ∷ bs) zero i h low = absurd (omega arith)
+dealt_before (b ∷ bs) (suc k) i h low = elim (cases_lt i b.terms) [ inl l ↦ here l | inr l ↦ later l (dealt_before bs k (i - b.terms) (omega arith) (omega arith)) ]
+  where
+    here : i < b.terms → dealt (b ∷ bs) i < suc k
+    here l = rw (dealt_here b bs i l) (omega arith)
+
+    later : b.terms ≤ i → dealt bs (i - b.terms) < k → dealt (b ∷ bs) i < suc k
+    later l d = rw (dealt_later b bs i l) (omega arith)
+
+pub dealt_from : (bs : List Block) (k i : ℕ) → k ≤ length bs → before bs k ≤ i → k ≤ dealt bs i
+dealt_from bs zero i h low = omega arith
+dealt_from [] (suc k) i h low = absurd (omega arith)
+dealt_from (b ∷ bs) (suc k) i h low = rw (dealt_later b bs i (omega arith)) (omega (arith, dealt_from bs k (i - b.terms) (omega arith) (omega arith)))
+
+-- blocks as rows tell them
+module _ (rs : List BlockRow) where
+  pub told_more : (k : ℕ) → k < length rs → before (map block_in rs) (k + 1) ≡ before (map block_in rs) k + (get_or rs k no_row).terms
+  told_more k h = before_more (map block_in rs) k (rw length-map h) ∙ ap (λ b. before (map block_in rs) k + b.terms) (get_or-map block_in rs k no_row no_block h)
+
+  pub told_all : (k : ℕ) → length rs ≤ k → before (map block_in rs) k ≡ total (map block_in rs)
+  told_all k h = ap total (take_all k (map block_in rs) (rw length-map h))
 
 -- the terms of all blocks that rows tell, added up by a sum that stays at the greatest number
 pub summed : (rs : List BlockRow) (most n : ℕ) → n ≤ most → fold (λ (k : ℕ) (row : BlockRow). min (k + row.terms) most) n rs ≡ min (n + total (map block_in rs)) most

@@ -1,11 +1,14 @@
 -- Tests of a term's operands, and what they decide.
-use Rattle.std.proofs.Common.{◌≡◌, ℕ, ◌<◌, ◌≤◌, Bool, true, ltb, leb, Decides, sym, refl, ap, ◌∙◌}
-use Rattle.std.proofs.lemmas.Bool.{and_parts, and_from, ltb-true, lt-ltb, leb-true, le-leb}
+use Rattle.std.proofs.Common.{◌≡◌, ℕ, ◌+◌, ◌<◌, ◌≤◌, Bool, true, ◌&&◌, ltb, leb, Some, Decides, sym, refl, ap, ◌∙◌, ap₂, inl, inr, arith}
+use Rattle.std.proofs.lemmas.Bool.{cases_lt, and_parts, and_from, ltb-true, lt-ltb, le-ltb, leb-true, le-leb, lt-leb}
+use Rattle.queries.specs.declared.block.Span.{Span}
+use Rattle.queries.specs.declared.term.Operands.{Operands}
 use Rattle.queries.specs.declared.term.Term.{Term}
 use Rattle.queries.specs.declared.term.Term.TheVariants.{Mark, Turn, Meet, Join, SomeNeighbour, EveryNeighbour, Lowest, Highest}
-use Rattle.queries.specs.Checks.{both_in, tag_below, standing, reading_up_to}
+use Rattle.queries.specs.Checks.{both_in, tag_below, standing, reading_up_to, SpanOf}
 use Rattle.queries.specs.Operands.{operands_of}
-use Rattle.queries.specs.Table.{Reads, by_turn, by_meet_left, by_meet_right, by_join_left, by_join_right, by_some, by_every}
+use Rattle.queries.specs.Table.{Table, block_of, Reads, by_turn, by_meet_left, by_meet_right, by_join_left, by_join_right, by_some, by_every}
+use Rattle.queries.proofs.Deals.{before, before_more, dealt_before, dealt_from}
 
 -- the rules for a term by itself, and with the block of each term
 pub record StandsAlone (tags count : ℕ) (term : Term) : Type 0 where
@@ -57,3 +60,32 @@ reading_decided blocks block t = (
   (λ e j r. leb-true (blocks j) block (each (λ k. leb (blocks k) block) true e r)),
   (λ h. both (λ k. leb (blocks k) block) t true refl (λ j r. le-leb (blocks j) block (h j r))),
 )
+
+-- tests by the terms of a block
+module _ (q : Table) (block : ℕ) (s : Span) (of : SpanOf q block s) where
+  pub first_at : s.first ≡ before q.blocks block
+  first_at = ap (λ (x : Span). x.first) of.is
+
+  pub end_at : s.end ≡ before q.blocks (block + 1)
+  end_at = ap (λ (x : Span). x.end) of.is ∙ sym (before_more q.blocks block of.stands)
+
+  pub before_end : (j : ℕ) → ltb j s.end ≡ leb (block_of q j) block
+  before_end j = elim (cases_lt j s.end) [ inl l ↦ below l | inr l ↦ past l ]
+    where
+      below : j < s.end → ltb j s.end ≡ leb (block_of q j) block
+      below l = lt-ltb j s.end l ∙ sym (le-leb (block_of q j) block (omega (arith, end_at, dealt_before q.blocks (block + 1) j (omega (arith, of.stands)) (omega (arith, end_at)))))
+
+      past : s.end ≤ j → ltb j s.end ≡ leb (block_of q j) block
+      past l = le-ltb j s.end l ∙ sym (lt-leb (block_of q j) block (omega (arith, end_at, dealt_from q.blocks (block + 1) j (omega (arith, of.stands)) (omega (arith, end_at)))))
+
+  pub both_before_end : (o : Operands) → (ltb o.left s.end && ltb o.right s.end) ≡ both_in (Some o) true (λ j. leb (block_of q j) block)
+  both_before_end o = ap₂ ◌&&◌ (before_end o.left) (before_end o.right)
+
+  pub before_first : (a : ℕ) → a < s.first → block_of q a < block
+  before_first a l = dealt_before q.blocks block a (omega (arith, of.stands)) (omega (arith, first_at))
+
+  pub first_before : (a : ℕ) → block_of q a < block → a < s.first
+  first_before a l = elim (cases_lt a s.first) [ inl h ↦ h | inr h ↦ absurd (past h) ]
+    where
+      past : s.first ≤ a → ⊥
+      past h = omega (arith, dealt_from q.blocks block a (omega (arith, of.stands)) (omega (arith, first_at)))

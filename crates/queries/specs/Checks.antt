@@ -1,5 +1,6 @@
 -- What the parts of admission find.
 use Rattle.std.specs.Prelude.{◌≡◌, ℕ, ◌<◌, Bool, true, ◌&&◌, ltb, length, Some, None, Option, nat_le, nat_lt}
+use Rattle.queries.specs.declared.block.Span.{Span}
 use Rattle.queries.specs.declared.refusal.QueryRefusal.{QueryRefusal}
 use Rattle.queries.specs.declared.refusal.QueryRefusal.TheVariants.{Sizes, BadBlock, BlockSum, BadTerm, LaterBlock, OwnTurn, NoMemory}
 use Rattle.queries.specs.declared.term.Operands.{Operands}
@@ -8,7 +9,8 @@ use Rattle.queries.specs.declared.term.Term.TheVariants.{Mark, Turn, Meet, Join,
 use Rattle.queries.specs.Admission.{Stands, Fits}
 use Rattle.queries.specs.Operands.{operands_of}
 use Rattle.queries.specs.Rows.{Rows, told}
-use Rattle.queries.specs.Table.{NoLaterBlock, TurnEarlier}
+use Rattle.queries.specs.Table.{Table, NoLaterBlock, TurnEarlier}
+use Rattle.queries.specs.Workings.{span_of}
 
 -- a test of both operands, or another where there are none
 abbrev pub both_in : Option Operands → Bool → (ℕ → Bool) → Bool
@@ -38,6 +40,11 @@ reading_up_to blocks block term = both_in (operands_of term) true (λ j. nat_le 
 -- a turn reads a block before this one
 abbrev pub TurnsBefore : (ℕ → ℕ) → ℕ → Term → Type 0
 TurnsBefore blocks block term = (a : ℕ) → term ≡ Turn a → blocks a < block
+
+-- a span is that of the terms of a block
+pub record SpanOf (q : Table) (block : ℕ) (s : Span) : Type 0 where
+  pub stands : block < length q.blocks
+  pub is : s ≡ span_of q block
 
 -- the first rule that term i breaks
 abbrev pub Faulty : Rows → ℕ → QueryRefusal → Type 0

@@ -1,11 +1,11 @@
 //! Admission: whether a table keeps every rule.
 ghost use Rattle.std.specs.Prelude.{◌≡◌, ℕ, ◌-◌, ◌^◌, ◌<◌, ◌↔◌, min, length, IsTrue, MatchOption, MatchResult};
-ghost use Rattle.queries.specs.Admission.{BlockFits, Framed, Admissible, Fits, Breaks};
-ghost use Rattle.queries.specs.Checks.{standing, reading_up_to, TurnsBefore, Faulty, FirstFaulty};
+ghost use Rattle.queries.specs.Admission.{BlockFits, BlocksAddUp, Framed, Admissible, Fits, Breaks};
+ghost use Rattle.queries.specs.Checks.{standing, reading_up_to, TurnsBefore, SpanOf, Faulty, FirstFaulty};
 ghost use Rattle.queries.specs.Rows.{rows_of, told};
-ghost use Rattle.queries.specs.Table.{total, block_of};
+ghost use Rattle.queries.specs.Table.{Table, total, block_of};
 
-use crate::block::Block;
+use crate::block::{Block, Span};
 use crate::refusal::QueryRefusal;
 use crate::rows::QueryTable;
 use crate::term::Term;
@@ -47,31 +47,10 @@ impl QueryTable<'_> {
         }
     }
 
-    /// Whether a term of the block `block` reads no later one.
-    fn reads_up_to(self, term: Term, block: usize) -> bool
-        ensures { result ≡ reading_up_to (block_of (told (rows_of self.entry))) block term }
-    {
-        match term.operands() {
-            Some(operands) => {
-                self.block_of(operands.left) <= block && self.block_of(operands.right) <= block
-            }
-            None => true,
-        }
-    }
-
-    /// Whether a term of the block `block`, if a turn, reads an earlier one.
-    fn turns_before(self, term: Term, block: usize) -> bool
-        ensures { IsTrue result ↔ TurnsBefore (block_of (told (rows_of self.entry))) block term }
-    {
-        match term {
-            Term::Turn(a) => self.block_of(a) < block,
-            _ => true,
-        }
-    }
-
-    /// Whether term `i` keeps every rule, and the first that it breaks.
-    fn check_term(self, i: usize) -> Result<(), QueryRefusal>
-        requires { i < length self.terms.now }
+    /// Whether term `i`, of the block whose terms are `span`, keeps every rule, and the first that it breaks.
+    fn check_term(self, i: usize, span: Span) -> Result<(), QueryRefusal>
+        requires term { i < length self.terms.now }
+        requires span { let q = told (rows_of self) in SpanOf q (block_of q i) span }
         ensures { MatchResult result (λ _. Fits (rows_of self.entry) i) (λ e. Faulty (rows_of self.entry) i e) }
     {
         let Ok(term) = Term::try_from(self.terms[i]) else {
@@ -80,23 +59,39 @@ impl QueryTable<'_> {
         if !self.stands(term) {
             return Err(QueryRefusal::BadTerm { term: i });
         }
-        let block = self.block_of(i);
-        if !self.reads_up_to(term, block) {
+        if !reads_up_to(term, span) {
             return Err(QueryRefusal::LaterBlock { term: i });
         }
-        if !self.turns_before(term, block) {
+        if !turns_before(term, span) {
             return Err(QueryRefusal::OwnTurn { term: i });
+        }
+        Ok(())
+    }
+
+    /// Whether every term of a block keeps every rule, and the first that the first faulty one breaks; those before the block do.
+    fn check_span(self, span: Span) -> Result<(), QueryRefusal>
+        requires sum { BlocksAddUp (rows_of self) }
+        requires span { (block : ℕ) × SpanOf (told (rows_of self)) block span }
+        requires before { (k : ℕ) → k < span.first → Fits (rows_of self) k }
+        ensures { let r = rows_of self.entry in MatchResult result (λ _. (k : ℕ) → k < span.end → Fits r k) (λ e. FirstFaulty r e) }
+    {
+        // A loop: with `try_for_each` the proof that the first faulty term is named stays open.
+        for i in span.first..span.end {
+            self.check_term(i, span)?;
         }
         Ok(())
     }
 
     /// Whether every term keeps every rule, and the first that the first faulty one breaks.
     fn check_terms(self) -> Result<(), QueryRefusal>
+        requires { Framed (rows_of self) }
         ensures { let r = rows_of self.entry in MatchResult result (λ _. (i : ℕ) → i < length r.terms → Fits r i) (λ e. FirstFaulty r e) }
     {
-        // A loop: with `try_for_each` the proof that the first faulty term is named stays open.
-        for i in 0..self.terms.len() {
-            self.check_term(i)?;
+        let mut first = 0;
+        for row in self.blocks {
+            let end = first + row.terms as usize;
+            self.check_span(Span { first, end })?;
+            first = end;
         }
         Ok(())
     }
@@ -123,5 +118,27 @@ impl QueryTable<'_> {
     {
         self.check_frame()?;
         self.check_terms()
+    }
+}
+
+// Terms are dealt in order: those before a block's own are of earlier blocks, and those past them of later ones.
+
+/// Whether a term of the block whose terms are `span` reads no later block.
+fn reads_up_to(term: Term, span: Span) -> bool
+    ensures { (q : Table) (block : ℕ) → SpanOf q block span → result ≡ reading_up_to (block_of q) block term }
+{
+    match term.operands() {
+        Some(operands) => operands.left < span.end && operands.right < span.end,
+        None => true,
+    }
+}
+
+/// Whether a term of the block whose terms are `span`, if a turn, reads an earlier block.
+fn turns_before(term: Term, span: Span) -> bool
+    ensures { (q : Table) (block : ℕ) → SpanOf q block span → IsTrue result ↔ TurnsBefore (block_of q) block term }
+{
+    match term {
+        Term::Turn(a) => a < span.first,
+        _ => true,
     }
 }
