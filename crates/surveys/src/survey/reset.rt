@@ -73,8 +73,9 @@ impl Survey {
         ensures flags { Unsettles (table_of query.now) tag self.old.blocks self.old.settled self.new.settled }
         ensures rest { self.new ≡ with_flags self.old self.new.settled }
     {
-        for (block, flag) in self.settled.iter_mut().enumerate() {
-            if block < self.blocks && query.reaches(tag, block) {
+        let end = self.blocks.min(self.settled.len());
+        for (block, flag) in self.settled[..end].iter_mut().enumerate() {
+            if query.reaches(tag, block) {
                 *flag = false;
             }
         }
