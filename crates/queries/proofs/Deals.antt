@@ -84,6 +84,26 @@ dealt_from bs zero i h low = omega arith
 dealt_from [] (suc k) i h low = absurd (omega arith)
 dealt_from (b ∷ bs) (suc k) i h low = rw (dealt_later b bs i (omega arith)) (omega (arith, dealt_from bs k (i - b.terms) (omega arith) (omega arith)))
 
+-- the next term, where no block is empty and the terms before are dealt up to block k
+module _ (bs : List Block) (full : (b : ℕ) → b < length bs → 1 ≤ (get_or bs b no_block).terms) (k i : ℕ) (low : before bs k ≤ i) (high : i ≤ before bs (k + 1)) (there : i < total bs) where
+  starts : (b : ℕ) → before bs b ≤ i → b < length bs
+  starts b h = elim (cases_lt b (length bs)) [ inl l ↦ l | inr l ↦ absurd (omega (arith, ap total (take_all b bs l))) ]
+
+  pub this_stands : k < length bs
+  this_stands = starts k low
+
+  pub of_next : i ≡ before bs (k + 1) → Dealt bs i (k + 1)
+  of_next e =
+      let next : k + 1 < length bs = starts (k + 1) (omega arith) in
+      record { stands = next; low = omega arith; high = omega (arith, full (k + 1) next) }
+
+  pub of_this : (i ≡ before bs (k + 1) → ⊥) → Dealt bs i k
+  of_this other = record { stands = this_stands; low = low; high = omega (arith, before_more bs k this_stands) }
+
+-- the block of a term that is dealt
+pub dealt_is : (bs : List Block) (i k : ℕ) → Dealt bs i k → dealt bs i ≡ k
+dealt_is bs i k d = in_block bs k i d.stands d.low d.high
+
 -- blocks as rows tell them
 module _ (rs : List BlockRow) where
   pub told_more : (k : ℕ) → k < length rs → before (map block_in rs) (k + 1) ≡ before (map block_in rs) k + (get_or rs k no_row).terms

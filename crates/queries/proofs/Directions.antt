@@ -1,7 +1,7 @@
 -- Which tables are admitted, and the rules on directions.
 use Rattle.std.proofs.Common.{◌≡◌, ℕ, ◌<◌, ◌≤◌, length, get_or, sym, ap, ◌∙◌, subst, arith}
 use Rattle.std.proofs.lemmas.List.{length-map, get_or-map}
-use Rattle.queries.specs.Admission.{Admissible, Fits}
+use Rattle.queries.specs.Admission.{Admissible, Fits, Framed}
 use Rattle.queries.specs.Rows.{Rows, no_row, block_in, told}
 use Rattle.queries.specs.Table.{Table, Admitted, Directed, solution_at, blocks_terms, no_block}
 use Rattle.queries.proofs.Rules.{as_many}
@@ -13,6 +13,13 @@ directed {q} admitted = record {
   others_like = λ i j h r steady same. ap (solution_at q) same;
 }
 
+-- no block is empty, where the frame is right
+pub no_empty_block : (r : Rows) → Framed r → (b : ℕ) → b < length (told r).blocks → 1 ≤ blocks_terms (told r) b
+no_empty_block r framed b h =
+    let there : b < length r.blocks = subst (λ n. b < n) (length-map r.blocks block_in) h in
+    let same : blocks_terms (told r) b ≡ (get_or r.blocks b no_row).terms = ap (λ k. k.terms) (get_or-map block_in r.blocks b no_row no_block there) in
+    rw same (framed.blocks b there).0
+
 -- what a table tells that keeps every rule of admission is admitted
 pub told_admitted_lem : (r : Rows) → Admissible r → Admitted (told r)
 told_admitted_lem r ok = record {
@@ -20,7 +27,7 @@ told_admitted_lem r ok = record {
     few_tags = ok.framed.sizes.few_tags;
     some_term = rw (as_many r) ok.framed.sizes.some_term;
     few_terms = rw (as_many r) ok.framed.sizes.few_terms;
-    no_empty_block = full;
+    no_empty_block = no_empty_block r ok.framed;
     all_dealt = ok.framed.sum ∙ sym (as_many r);
   };
   tag_stands = λ i h. (fits i h).stands.tag;
@@ -31,9 +38,3 @@ told_admitted_lem r ok = record {
   where
     fits : (i : ℕ) → i < length (told r).terms → Fits r i
     fits i h = ok.terms i (subst (λ n. i < n) (as_many r) h)
-
-    full : (b : ℕ) → b < length (told r).blocks → 1 ≤ blocks_terms (told r) b
-    full b h =
-        let there : b < length r.blocks = subst (λ n. b < n) (length-map r.blocks block_in) h in
-        let same : blocks_terms (told r) b ≡ (get_or r.blocks b no_row).terms = ap (λ k. k.terms) (get_or-map block_in r.blocks b no_row no_block there) in
-        rw same (ok.framed.blocks b there).0

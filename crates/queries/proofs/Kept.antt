@@ -1,5 +1,5 @@
 -- What a query keeps of its blocks and terms, and its table.
-use Rattle.std.proofs.Common.{◌≡◌, ℕ, zero, suc, ◌<◌, Bool, List, [], ◌∷◌, map, length, get_or, vec_items, sym, refl, ap, ◌∙◌, ap₂, subst, arith}
+use Rattle.std.proofs.Common.{◌≡◌, ℕ, zero, suc, ◌+◌, ◌<◌, Bool, List, [], ◌∷◌, map, length, get_or, vec_items, sym, refl, ap, ◌∙◌, ap₂, subst, arith}
 use Rattle.std.proofs.lemmas.List.{length-map, get_or-map}
 use Rattle.std.proofs.lemmas.Simd.{map-map}
 use Rattle.queries.specs.declared.query.Query.{Query}
@@ -11,8 +11,8 @@ use Rattle.queries.specs.Entries.{dealt_of, kept}
 use Rattle.queries.specs.Queries.{table_of}
 use Rattle.queries.specs.Table.{Table, table, Admitted, Reads, term_at, block_of}
 use Rattle.queries.specs.Workings.{listed, nth_term, no_term, span_of, readers_in, reached_before}
-use Rattle.queries.proofs.Deals.{dealt_in}
-use Rattle.queries.proofs.Listed.{getD_listed}
+use Rattle.queries.proofs.Deals.{before, before_more, dealt_in}
+use Rattle.queries.proofs.Listed.{length_listed, getD_listed}
 
 -- the terms of a table, each with its block
 pub record DealtAs (q : Table) (ds : List DealtTerm) : Type 0 where
@@ -34,6 +34,16 @@ dealt_by_parts q ds terms blocks = record {
   where
     count : length ds ≡ length q.terms
     count = sym (length-map ds (λ (d : DealtTerm). d.term)) ∙ ap length terms
+
+-- the entries of the blocks of a table, by their spans
+module _ (q : Table) (es : List BlockEntry) (spans : map (λ (e : BlockEntry). e.span) es ≡ listed (span_of q) (length q.blocks)) where
+  pub entry_count : length es ≡ length q.blocks
+  entry_count = sym (length-map es (λ (e : BlockEntry). e.span)) ∙ ap length spans ∙ length_listed (span_of q) (length q.blocks)
+
+  pub end_of_entry : (k : ℕ) (d : BlockEntry) → k < length q.blocks → (get_or es k d).span.end ≡ before q.blocks (k + 1)
+  end_of_entry k d h =
+      let is : (get_or es k d).span ≡ span_of q k = sym (get_or-map (λ (e : BlockEntry). e.span) es k d d.span (rw entry_count h)) ∙ ap (λ l. get_or l k d.span) spans ∙ getD_listed (span_of q) (length q.blocks) k d.span h in
+      ap (λ s. s.end) is ∙ sym (before_more q.blocks k h)
 
 terms_of_entries : (es : List TermEntry) → map (λ (d : DealtTerm). d.term) (map dealt_of es) ≡ map (λ (e : TermEntry). e.term) es
 terms_of_entries es = map-map (λ (d : DealtTerm). d.term) dealt_of es

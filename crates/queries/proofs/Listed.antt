@@ -10,13 +10,13 @@ use Rattle.std.proofs.lemmas.Bool.{false≢true, cases_lt, lt-ltb, le-ltb}
 use Rattle.queries.specs.Workings.{listed}
 
 module _ {X : Type 0} (f : ℕ → X) where
-  length_listed : (n : ℕ) → length (listed f n) ≡ n
+  pub length_listed : (n : ℕ) → length (listed f n) ≡ n
   length_listed n = length-map-range_with_len f 0 n
 
   pub getD_listed : (n i : ℕ) (d : X) → i < n → get_or (listed f n) i d ≡ f i
   getD_listed n i d h = get_or-map-range_with_len f 0 n i i d h (omega arith)
 
-  listed_more : (n : ℕ) → listed f (n + 1) ≡ listed f n ++ (f n ∷ [])
+  pub listed_more : (n : ℕ) → listed f (n + 1) ≡ listed f n ++ (f n ∷ [])
   listed_more n = map-range_with_len_more f 0 n n (omega arith)
 
   pub listed_all : (xs : List X) (n : ℕ) (d : X) → length xs ≡ n → ((k : ℕ) → k < n → get_or xs k d ≡ f k) → xs ≡ listed f n
@@ -65,7 +65,7 @@ none_listed n i v e = elim (cases_lt i n) [ inl h ↦ absurd (past (e ∙ rw (lt
     past : None ≡ Some v → ⊥
     past f = false≢true (ap is_some f)
 
-nth_map : {X Y : Type 0} (f : X → Y) (xs : List X) (i : ℕ) → slice_get (map f xs) i ≡ option_map f (slice_get xs i)
+pub nth_map : {X Y : Type 0} (f : X → Y) (xs : List X) (i : ℕ) → slice_get (map f xs) i ≡ option_map f (slice_get xs i)
 nth_map f [] i = refl
 nth_map f (x ∷ xs) zero = refl
 nth_map f (x ∷ xs) (suc i) = nth_map f xs i

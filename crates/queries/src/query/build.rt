@@ -30,7 +30,7 @@ impl Query {
     {
         let tags = table.tags as usize;
         let blocks = table.block_entries(heap)?;
-        let dealt = table.dealt_terms(heap)?;
+        let dealt = table.dealt_terms(heap, &blocks)?;
         let terms = DealtTerms {
             terms: &dealt,
             blocks: blocks.len(),

@@ -12,11 +12,11 @@ invariant_of-terms c =
     let q = told_by (rows_of c.args.table) in
     let admitted = told_admitted_lem (rows_of c.args.table) c.requires in
     let dealt = c.in_ok-dealt.ensures in
-    let lent : DealtAs q c.deref.result.now = subst (DealtAs q) (sym c.deref.ensures.value) (dealt_by_parts q (vec_items c.in_ok-dealt.dealt) dealt.0 dealt.1) in
+    let lent : DealtAs q c.deref-2.result.now = subst (DealtAs q) (sym c.deref-2.ensures.value) (dealt_by_parts q (vec_items c.in_ok-dealt.dealt) dealt.0 dealt.1) in
     let in_count : length q.blocks ≡ c.len.result = sym (c.len.ensures ∙ c.in_ok-blocks.blocks.ok.0 ∙ sym (length-map (vec_items c.in_ok-blocks.blocks) (λ b. b.block)) ∙ ap length c.in_ok-blocks.ensures.0) in
     record {
-      blocks_stand = λ i h. subst (λ n. (nth_term c.deref.result.now i).block < n) in_count (in_blocks q admitted c.deref.result.now lent i h);
-      operands_stand = operands_in q admitted c.deref.result.now lent;
+      blocks_stand = λ i h. subst (λ n. (nth_term c.deref-2.result.now i).block < n) in_count (in_blocks q admitted c.deref-2.result.now lent i h);
+      operands_stand = operands_in q admitted c.deref-2.result.now lent;
     }
 
 pub invariant_of-result : goal.invariant_of-result
@@ -27,7 +27,7 @@ invariant_of-result c =
     let bs = vec_items c.in_ok-blocks.blocks in
     let es = vec_items c.in_ok-entries.field-0 in
     let ds = vec_items c.in_ok-dealt.dealt in
-    let lent = c.deref.ensures.value in
+    let lent = c.deref-2.ensures.value in
     let entries = c.in_ok-entries.ensures.0 ∙ lent in
     record {
       rules = subst Admitted (sym (same_table q bs es ds blocks.0 dealt.0 entries)) (told_admitted_lem (rows_of c.args.table) c.requires);
@@ -40,4 +40,4 @@ invariant_of-result c =
 pub returns : goal.returns
 returns c =
     let entries = c.in_ok-entries.ensures.0 in
-    same_table (told_by (rows_of c.args.table)) (vec_items c.in_ok-blocks.blocks) (vec_items c.in_ok-entries.field-0) (vec_items c.in_ok-dealt.dealt) c.in_ok-blocks.ensures.0 c.in_ok-dealt.ensures.0 (entries ∙ c.deref.ensures.value)
+    same_table (told_by (rows_of c.args.table)) (vec_items c.in_ok-blocks.blocks) (vec_items c.in_ok-entries.field-0) (vec_items c.in_ok-dealt.dealt) c.in_ok-blocks.ensures.0 c.in_ok-dealt.ensures.0 (entries ∙ c.deref-2.ensures.value)
