@@ -1,6 +1,6 @@
 //! The test of each node of a table, given the levels of the nodes.
 ghost use Rattle.std.specs.Prelude.{◌≡◌, ℕ, ◌<◌, true, length, Decides};
-ghost use Rattle.shapes.specs.Certified.{answered_at, all_answered_lem, rises, both_rise_lem, root_alone_lem, one_entry, certified_at};
+ghost use Rattle.shapes.specs.Certified.{answered_at, all_answered_lem, rises, both_rise_lem, root_alone_lem, one_entry, entered, certified_at};
 ghost use Rattle.shapes.specs.Levels.{level_of};
 ghost use Rattle.shapes.specs.Links.{linked_tree};
 ghost use Rattle.shapes.specs.Tree.{along};
@@ -45,9 +45,10 @@ impl Leveled<'_> {
     fn all_answered(&self, node: usize) -> bool
         ensures { result ≡ all_answered_lem (linked_tree self.now.rows.now) node }
     {
-        [Axis::First, Axis::Next, Axis::Owner, Axis::Previous]
-            .into_iter()
-            .all(|axis| self.answered(axis, node))
+        self.answered(Axis::First, node)
+            && self.answered(Axis::Next, node)
+            && self.answered(Axis::Owner, node)
+            && self.answered(Axis::Previous, node)
     }
 
     /// Whether the level grows by 1 where a link along an axis leads.
@@ -84,19 +85,24 @@ impl Leveled<'_> {
         self.level(node).unwrap_or(0) > 0 && owned != preceded
     }
 
+    fn entered(&self, node: usize) -> bool
+        ensures { result ≡ entered (linked_tree self.now.rows.now) (level_of self.now.levels.now) node }
+    {
+        if node == 0 {
+            self.root_alone()
+        } else {
+            self.one_entry(node)
+        }
+    }
+
     #[tactic(auto, unfolding(crate::specs::Certified::certified_at))]
     fn certified(&self, node: usize) -> bool
         ensures { result ≡ certified_at self.now.rows.now self.now.levels.now node }
     {
-        let entered = if node == 0 {
-            self.root_alone()
-        } else {
-            self.one_entry(node)
-        };
         self.all_answered(node)
             && self.rises(Axis::First, node)
             && self.rises(Axis::Next, node)
-            && entered
+            && self.entered(node)
     }
 
     /// Whether every node passes the test.
