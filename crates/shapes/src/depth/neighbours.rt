@@ -41,7 +41,7 @@ impl Shape for DepthShape {
             Axis::First => node
                 .checked_add(1)
                 .filter(|after| self.is_first_child(*after)),
-            Axis::Next => self.nodes.get(node)?.next,
+            Axis::Next => self.nodes.get(node)?.next.map(usize::from),
             Axis::Owner => {
                 if self.is_first_child(node) {
                     Some(node - 1)
@@ -49,7 +49,7 @@ impl Shape for DepthShape {
                     None
                 }
             }
-            Axis::Previous => self.nodes.get(node)?.previous,
+            Axis::Previous => self.nodes.get(node)?.previous.map(usize::from),
         }
     }
 }

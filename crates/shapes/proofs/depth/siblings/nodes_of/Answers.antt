@@ -8,13 +8,13 @@ pub index_mut-requires : goal.index_mut-requires
 index_mut-requires c = omega (arith, c.in_ok-push.ensures.len, (((c.previous_sibling-previous.ensures c.in-Some.left).0) c.in-Some.is).later, c.loop-node.invariant.laid.size)
 
 pub index_mut-requires-in-loop-node : goal.index_mut-requires-in-loop-node
-index_mut-requires-in-loop-node c = omega (arith, depth_bound c.args.depths.now c.loop-node.node (λ y le. c.requires y (omega arith)), c.loop-node.invariant.room)
+index_mut-requires-in-loop-node c = omega (arith, depth_bound c.args.depths.now c.loop-node.node (λ y le. c.requires.lawful y (omega arith)), c.loop-node.invariant.room)
 
 pub loop-node-preserved : goal.loop-node-preserved
 loop-node-preserved c = record {
   room = c.loop-node.invariant.room;
-  latest = latest_more c.args.depths.now c.requires c.loop-node.node _ _ c.loop-node.latest.items c.loop-node-test.true (omega arith) (omega arith)
-      (omega (arith, depth_bound c.args.depths.now c.loop-node.node (λ y le. c.requires y (omega arith)), c.loop-node.invariant.room, c.loop-node.latest.ok.0))
+  latest = latest_more c.args.depths.now c.requires.lawful c.loop-node.node _ _ c.loop-node.latest.items c.loop-node-test.true (omega arith) (omega arith)
+      (omega (arith, depth_bound c.args.depths.now c.loop-node.node (λ y le. c.requires.lawful y (omega arith)), c.loop-node.invariant.room, c.loop-node.latest.ok.0))
       c.loop-node.invariant.latest;
   laid = elim c.match-previous.branch [
     | in-Some w ↦
@@ -27,4 +27,4 @@ loop-node-preserved c = record {
 }
 
 pub returns : goal.returns
-returns c = laid_nodes c.args.depths.now c.loop-node.nodes.items c.requires (subst (λ n. Laid c.args.depths.now n c.loop-node.nodes.items) (omega arith) c.loop-node.invariant.laid)
+returns c = laid_nodes c.args.depths.now c.loop-node.nodes.items c.requires.lawful (subst (λ n. Laid c.args.depths.now n c.loop-node.nodes.items) (omega arith) c.loop-node.invariant.laid)
