@@ -1,6 +1,6 @@
 -- Each node's distance from the root along first and next, worked out breadth first.
 use Rattle.std.specs.Prelude.{ℕ, zero, suc, ◌+◌, Bool, cond, ◌&&◌, List, [], ◌∷◌, ◌++◌, length, is_none, replicate, Some, None, Option, vec_items, nat_lt, slice_index_or, slice_set}
-use Rattle.shapes.specs.declared.levels.Search.{Search}
+use Rattle.shapes.specs.declared.levels.search.Search.{Search}
 use Rattle.shapes.specs.Tree.{Tree}
 
 -- the level of each node, none where it is not reached yet; and the nodes reached and not yet visited, with their levels

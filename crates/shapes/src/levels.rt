@@ -5,20 +5,17 @@ ghost use Rattle.shapes.specs.Links.{linked_tree};
 
 use crate::axis::Axis;
 use crate::count::MOST_NODES;
+use crate::levels::search::Search;
 use crate::links::Links;
 use crate::table::led_to;
 use std::alloc::{AllocError, Global};
 use std::collections::VecDeque;
 
-/// The level of each node reached, and the nodes reached and not yet visited, with their levels.
-#[derive(Drop)]
-struct Search {
-    levels: Vec<Option<u16>>,
-    waiting: VecDeque<(usize, u16)>,
-}
+mod search;
 
 impl Search {
     fn new(heap: Global, count: usize) -> Result<Search, AllocError>
+        requires { count ≤ MOST_NODES }
         ensures { IfOk result (λ s. reached s ≡ untouched count) }
     {
         let levels = vec![in heap; None; count]?;
@@ -33,7 +30,7 @@ impl Search {
         match found {
             Some(node) if node < self.levels.len() && self.levels[node].is_none() => {
                 self.levels[node] = Some(level);
-                self.waiting.push_back((node, level))?;
+                self.waiting.push_back((node as u16, level))?;
             }
             _ => {}
         }
@@ -58,7 +55,7 @@ pub(crate) fn levels_of(heap: Global, rows: &[Links]) -> Result<Vec<Option<u16>>
     let mut search = Search::new(heap, rows.len())?;
     search.reach(0, Some(0))?;
     while let Some((node, level)) = search.waiting.pop_front() {
-        search.visit(rows, node, level)?;
+        search.visit(rows, node as usize, level)?;
     }
     Ok(search.levels)
 }

@@ -1,0 +1,14 @@
+//! What a search of a table holds.
+ghost use Rattle.std.specs.Prelude.{◌≤◌, length};
+ghost use Rattle.shapes.specs.declared.count.TheConstants.{MOST_NODES};
+
+use std::collections::VecDeque;
+
+/// The level of each node reached, and the nodes reached and not yet visited, with their levels.
+// The nodes that wait are few, so 16 bits hold a number.
+#[derive(Drop)]
+pub(super) struct Search {
+    pub(super) levels: Vec<Option<u16>>,
+    pub(super) waiting: VecDeque<(u16, u16)>,
+    ghost few: { length levels.items ≤ MOST_NODES },
+}
