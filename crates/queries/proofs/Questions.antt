@@ -1,5 +1,5 @@
 -- What a query keeps worked out answers its questions.
-use Rattle.std.proofs.Common.{◌≡◌, ℕ, ◌+◌, ◌<◌, Bool, true, eqb, List, length, sym, ◌∙◌, subst, arith}
+use Rattle.std.proofs.Common.{◌≡◌, ℕ, ◌+◌, ◌<◌, ◌≤◌, Bool, true, eqb, List, [], length, sym, ◌∙◌, subst, arith}
 use Rattle.std.proofs.lemmas.Bool.{and_parts, and_from, eqb-true, eq-eqb}
 use Rattle.queries.specs.declared.query.Query.{Query}
 use Rattle.queries.specs.declared.workings.DealtTerm.{DealtTerm}
@@ -7,7 +7,7 @@ use Rattle.queries.specs.Operands.{operands_of, either_is}
 use Rattle.queries.specs.Queries.{table_of, Spans, Reader, ListsReaders}
 use Rattle.queries.specs.Table.{Table, Reads, total, Admitted}
 use Rattle.queries.specs.Workings.{listed, nth_term, span_of, reads_within, readers_in, reached_before}
-use Rattle.queries.proofs.Deals.{Dealt, in_block, dealt_in, before_more, before_le}
+use Rattle.queries.proofs.Deals.{Dealt, in_block, dealt_in, dealt_past, before_more, before_le}
 use Rattle.queries.proofs.Kept.{DealtAs, dealt}
 use Rattle.queries.proofs.Operands.{reads_test, test_reads}
 use Rattle.queries.proofs.Readers.{kept_only, kept_all, kept_rises}
@@ -29,11 +29,19 @@ module _ (q : Table) (all_dealt : total q.blocks ≡ length q.terms) where
     all = λ i there e. let d = subst (Dealt q.blocks i) e (dealt_in q.blocks i (omega arith)) in (d.low, d.high);
   }
 
+  -- a term that is not there is read by none
+  pub none_past : (t : ℕ) → length q.terms ≤ t → ListsReaders q t []
+  none_past t h = record {
+    rising = λ a b l k. absurd (omega arith);
+    only = λ j has. absurd (omega (arith, has.1));
+    all = λ j r. absurd (omega (arith, r.same_block, (dealt_in q.blocks j (omega (arith, r.stands))).stands, dealt_past q.blocks t (omega arith)));
+  }
+
 -- the readers of a term
 module _ (q : Table) (ds : List DealtTerm) (dealt_as : DealtAs q ds) where
   pub readers_right : (t : ℕ) → t < length q.terms → ListsReaders q t (readers_in ds t)
   readers_right t h = record {
-    rising = kept_rises (reads_within ds t) (length ds);
+    rising = kept_rises (reads_within ds t) 0 (length ds);
     only = λ j has. only j (kept_only (reads_within ds t) (length ds) j has);
     all = λ j r. kept_all (reads_within ds t) (length ds) j (rw dealt_as.count r.stands) (passes j r);
   }

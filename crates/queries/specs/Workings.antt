@@ -1,5 +1,5 @@
 -- What a query keeps worked out: each as a function of its table.
-use Rattle.std.specs.Prelude.{ℕ, zero, suc, ◌+◌, Bool, false, ◌&&◌, ◌||◌, List, map, length, take, Some, None, filter, Option, ◌==◌, slice_index_or}
+use Rattle.std.specs.Prelude.{ℕ, zero, suc, ◌+◌, Bool, false, cond, ◌&&◌, ◌||◌, List, [], ◌∷◌, ◌++◌, map, length, take, Some, None, filter, Option, ◌==◌, slice_index_or}
 use Rattle.std.specs.List.{range_with_len}
 use Rattle.queries.specs.declared.block.Span.{Span}
 use Rattle.queries.specs.declared.term.Operands.{Operands}
@@ -32,6 +32,10 @@ reads_within terms t j = (nth_term terms j).block == (nth_term terms t).block &&
 -- the terms of the block of term t that read it
 abbrev pub readers_in : List DealtTerm → ℕ → List ℕ
 readers_in terms t = filter (reads_within terms t) (range_with_len 0 (length terms))
+
+-- a list with one more at its end, where a test says so
+abbrev pub noted : Bool → List ℕ → ℕ → List ℕ
+noted test l j = cond test (l ++ (j ∷ [])) l
 
 -- whether a term reads the tag or, by its operands, a block that is reached
 abbrev pub touching : Option Operands → Bool → (ℕ → Bool) → Bool

@@ -1,6 +1,6 @@
 //! Terms: how a definition's grade at a node comes about.
 ghost use Rattle.std.specs.Prelude.{◌≡◌};
-ghost use Rattle.queries.specs.Operands.{operands_of, either_is};
+ghost use Rattle.queries.specs.Operands.{operands_of};
 
 use shapes::axis::Axis;
 use std::fmt;
@@ -40,16 +40,6 @@ impl Term {
             Term::Turn(a) | Term::SomeNeighbour(_, a) | Term::EveryNeighbour(_, a) => Some(
                 Operands { left: a, right: a },
             ),
-        }
-    }
-
-    /// Whether this term reads another.
-    pub(crate) fn reads(self, other: usize) -> bool
-        ensures { result ≡ either_is (operands_of self) other }
-    {
-        match self.operands() {
-            Some(operands) => operands.left == other || operands.right == other,
-            None => false,
         }
     }
 }

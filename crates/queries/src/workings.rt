@@ -1,8 +1,8 @@
 //! What an admitted query keeps worked out.
-ghost use Rattle.std.specs.Prelude.{◌≡◌, ℕ, ◌<◌, false, map, length, IfOk, vec_items, slice_index_or};
-ghost use Rattle.queries.specs.Entries.{dealt_of};
+ghost use Rattle.std.specs.Prelude.{◌≡◌, ℕ, ◌<◌, false, ◌&&◌, [], map, length, IfOk, OnOk, vec_items, ◌==◌, slice_index_or};
+ghost use Rattle.queries.specs.Entries.{dealt_of, readers_at};
 ghost use Rattle.queries.specs.Table.{Reads};
-ghost use Rattle.queries.specs.Workings.{listed, nth_term, reads_within, readers_in, touched, reached_before};
+ghost use Rattle.queries.specs.Workings.{listed, nth_term, reads_within, readers_in, noted, touched, reached_before};
 
 use crate::query::entries::TermEntry;
 use crate::term::Term;
@@ -25,36 +25,28 @@ pub(crate) struct DealtTerms<'a> {
 }
 
 impl DealtTerms<'_> {
-    /// Whether term `i` is of the block of another term, and reads it.
-    fn reads_within(self, i: usize, other: usize) -> bool
-        requires term { i < length self.terms.now }
-        requires other { other < length self.terms.now }
-        ensures { result ≡ reads_within self.entry.terms.now other i }
-    {
-        self.terms[i].block == self.terms[other].block && self.terms[i].term.reads(other)
-    }
-
-    /// The terms of a term's own block that read it, in rising order.
-    fn readers_of(self, heap: Global, term: usize) -> Result<Vec<usize>, AllocError>
-        requires { term < length self.terms.now }
-        ensures { IfOk result (λ v. v.items ≡ readers_in self.entry.terms.now term) }
-    {
-        (0..self.terms.len())
-            .filter(|i| self.reads_within(*i, term))
-            .collect(heap)
-    }
-
-    /// Each term with its readers.
-    pub(crate) fn entries(self, heap: Global) -> Result<Vec<TermEntry>, AllocError>
-        ensures { IfOk result (λ v. (map dealt_of v.items ≡ self.entry.terms.now) × (map (λ e. e.readers.items) v.items ≡ listed (readers_in self.entry.terms.now) (length self.entry.terms.now))) }
+    /// Each term, with no readers yet.
+    fn unread(self, heap: Global) -> Result<Vec<TermEntry>, AllocError>
+        ensures { IfOk result (λ v. (map dealt_of v.items ≡ self.entry.terms.now) × ((t : ℕ) → readers_at v.items t ≡ [])) }
     {
         let mut entries = Vec::new(heap);
-        for (i, dealt) in self.terms.iter().enumerate() {
+        for dealt in self.terms {
             entries.push(TermEntry {
                 term: dealt.term,
                 block: dealt.block,
-                readers: self.readers_of(heap, i)?,
+                readers: Vec::new(heap),
             })?;
+        }
+        Ok(entries)
+    }
+
+    /// Each term with its readers, found in one pass over the terms.
+    pub(crate) fn entries(self, heap: Global) -> Result<Vec<TermEntry>, AllocError>
+        ensures { IfOk result (λ v. (map dealt_of v.items ≡ self.entry.terms.now) × (map (λ e. e.readers.items) v.items ≡ listed (readers_in self.entry.terms.now) (length self.entry.terms.now))) }
+    {
+        let mut entries = self.unread(heap)?;
+        for reader in 0..self.terms.len() {
+            note_operands(&mut entries, reader)?;
         }
         Ok(entries)
     }
@@ -104,4 +96,34 @@ impl DealtTerms<'_> {
         }
         Ok(reached)
     }
+}
+
+/// Notes a term at a term that it reads, if both are of one block.
+fn note_within(entries: &mut [TermEntry], read: usize, reader: usize) -> Result<(), AllocError>
+    requires read { read < length entries.old }
+    requires reader { reader < length entries.old }
+    ensures dealt { OnOk result (map dealt_of entries.new ≡ map dealt_of entries.old) }
+    ensures readers { let ds = map dealt_of entries.old in OnOk result ((t : ℕ) → readers_at entries.new t ≡ noted ((nth_term ds reader).block == (nth_term ds t).block && read == t) (readers_at entries.old t) reader) }
+{
+    if entries[reader].block == entries[read].block {
+        entries[read].readers.push(reader)?;
+    }
+    Ok(())
+}
+
+/// Notes a term once at each term of its block that it reads.
+fn note_operands(entries: &mut [TermEntry], reader: usize) -> Result<(), AllocError>
+    requires reader { reader < length entries.old }
+    requires operands { (j : ℕ) → Reads (nth_term (map dealt_of entries.old) reader).term j → j < length entries.old }
+    ensures dealt { OnOk result (map dealt_of entries.new ≡ map dealt_of entries.old) }
+    ensures readers { OnOk result ((t : ℕ) → readers_at entries.new t ≡ noted (reads_within (map dealt_of entries.old) t reader) (readers_at entries.old t) reader) }
+{
+    let Some(operands) = entries[reader].term.operands() else {
+        return Ok(());
+    };
+    note_within(entries, operands.left, reader)?;
+    if operands.right != operands.left {
+        note_within(entries, operands.right, reader)?;
+    }
+    Ok(())
 }

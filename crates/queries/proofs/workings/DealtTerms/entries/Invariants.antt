@@ -1,10 +1,10 @@
-use Rattle.std.proofs.Common.{◌≡◌, map, take, vec_items}
-use Rattle.queries.specs.Entries.{dealt_of}
-use Rattle.queries.specs.Workings.{listed, readers_in}
+use Rattle.std.proofs.Common.{◌≡◌, ℕ, map, vec_items}
+use Rattle.queries.specs.Entries.{dealt_of, readers_at}
+use Rattle.queries.proofs.Readers.{readers_before}
 use Rattle.queries.proofs.workings.DealtTerms.entries.Given as goal
 
-abbrev pub invariant-loop-i : goal.invariant-loop-i
-invariant-loop-i l = record {
-  dealt : map dealt_of (vec_items l.entries) ≡ take l.i l.self.terms.now;
-  readers : map (λ e. vec_items e.readers) (vec_items l.entries) ≡ listed (readers_in l.self.terms.now) l.i;
+abbrev pub invariant-loop-reader : goal.invariant-loop-reader
+invariant-loop-reader l = record {
+  dealt : map dealt_of (vec_items l.entries) ≡ l.self.terms.now;
+  readers : (t : ℕ) → readers_at (vec_items l.entries) t ≡ readers_before l.self.terms.now l.reader t;
 }
