@@ -1,5 +1,5 @@
 -- What a term reads, by its operands.
-use Rattle.std.proofs.Common.{◌≡◌, ℕ, true, ◌||◌, eqb, IfSome, Some, refl, subst, inl, inr}
+use Rattle.std.proofs.Common.{◌≡◌, ℕ, true, false, ◌||◌, eqb, IfSome, Some, None, sym, refl, ap, ◌∙◌, subst, inl, inr}
 use Rattle.std.proofs.lemmas.Option.{MatchOption-at_some}
 use Rattle.std.proofs.lemmas.Bool.{false≢true, or_cases, or_left, or_right, eqb-true, eq-eqb}
 use Rattle.queries.specs.declared.term.Operands.{Operands}
@@ -59,3 +59,10 @@ module _ (t : Term) (o : Operands) (e : operands_of t ≡ Some o) where
 
   pub right_read : Reads t o.right
   right_read = (MatchOption-at_some (Unit {0}) (λ p. Reads t p.left × Reads t p.right) o e (of_both (Reads t) t (λ j r. r))).1
+
+-- a term with none reads nothing
+pub none_read : (t : Term) → operands_of t ≡ None → (j : ℕ) → Reads t j → ⊥
+none_read t e j r = let z : false ≡ true = ap (λ p. either_is p j) (sym e) ∙ reads_test r in false≢true z
+
+pub turn_read : (t : Term) (a : ℕ) → t ≡ Turn a → Reads t a
+turn_read t a e = subst (λ u. Reads u a) (sym e) (by_turn a)

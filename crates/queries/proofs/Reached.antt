@@ -9,7 +9,7 @@ use Rattle.queries.specs.declared.workings.DealtTerm.{DealtTerm}
 use Rattle.queries.specs.Workings.{nth_term, touched, reached_before}
 
 -- what a term touches goes by the blocks of what it reads
-touched_same : (ds : List DealtTerm) (tag : ℕ) (p p' : ℕ → Bool) (t : Term) → ((j : ℕ) → Reads t j → p (nth_term ds j).block ≡ p' (nth_term ds j).block) → touched ds tag p t ≡ touched ds tag p' t
+pub touched_same : (ds : List DealtTerm) (tag : ℕ) (p p' : ℕ → Bool) (t : Term) → ((j : ℕ) → Reads t j → p (nth_term ds j).block ≡ p' (nth_term ds j).block) → touched ds tag p t ≡ touched ds tag p' t
 touched_same ds tag p p' (Mark a) h = refl
 touched_same ds tag p p' (Turn a) h = ap₂ ◌||◌ (h a (by_turn a)) (h a (by_turn a))
 touched_same ds tag p p' (Meet a b) h = ap₂ ◌||◌ (h a (by_meet_left a b)) (h b (by_meet_right a b))

@@ -19,7 +19,7 @@ module _ (ds : List DealtTerm) (tag : ℕ) (reached : ℕ → Bool) where
   by_either : (t : Term) (a b : ℕ) → Reads t a → Reads t b → (reached (nth_term ds a).block || reached (nth_term ds b).block) ≡ true → (t ≡ Mark tag) ⊎ ((j : ℕ) × Reads t j × (reached (nth_term ds j).block ≡ true))
   by_either t a b p q e = elim (or_cases (reached (nth_term ds a).block) (reached (nth_term ds b).block) e) [ inl l ↦ inr (a, p, l) | inr r ↦ inr (b, q, r) ]
 
-  touches_by : (t : Term) → touched ds tag reached t ≡ true → (t ≡ Mark tag) ⊎ ((j : ℕ) × Reads t j × (reached (nth_term ds j).block ≡ true))
+  pub touches_by : (t : Term) → touched ds tag reached t ≡ true → (t ≡ Mark tag) ⊎ ((j : ℕ) × Reads t j × (reached (nth_term ds j).block ≡ true))
   touches_by (Mark a) e = inl (ap Mark (eqb-true a tag e))
   touches_by (Turn a) e = by_either (Turn a) a a (by_turn a) (by_turn a) e
   touches_by (Meet a b) e = by_either (Meet a b) a b (by_meet_left a b) (by_meet_right a b) e
@@ -29,10 +29,10 @@ module _ (ds : List DealtTerm) (tag : ℕ) (reached : ℕ → Bool) where
   touches_by Lowest e = absurd (false≢true e)
   touches_by Highest e = absurd (false≢true e)
 
-  mark_touches : touched ds tag reached (Mark tag) ≡ true
+  pub mark_touches : touched ds tag reached (Mark tag) ≡ true
   mark_touches = eq-eqb tag tag refl
 
-  reading_touches : {t : Term} {j : ℕ} → Reads t j → reached (nth_term ds j).block ≡ true → touched ds tag reached t ≡ true
+  pub reading_touches : {t : Term} {j : ℕ} → Reads t j → reached (nth_term ds j).block ≡ true → touched ds tag reached t ≡ true
   reading_touches (by_turn a) h = or_left (reached (nth_term ds a).block) _ h
   reading_touches (by_meet_left a b) h = or_left (reached (nth_term ds a).block) _ h
   reading_touches (by_meet_right a b) h = or_right (reached (nth_term ds a).block) _ h
@@ -101,7 +101,7 @@ module _ (q : Table) (admitted : Admitted q) (ds : List DealtTerm) (dealt_as : D
           same : block_of q i ≤ block_of q j → block_of q j ≤ block_of q i → block_of q j ≡ block_of q i
           same l m = omega arith
 
-  reached_decided : (b : ℕ) → Decides (reached_before ds tag (length q.terms) b) (Reaches q tag b)
+  pub reached_decided : (b : ℕ) → Decides (reached_before ds tag (length q.terms) b) (Reaches q tag b)
   reached_decided b = (found (length q.terms) b (omega arith), reached_found)
 
   -- a tag that is not there reaches nothing, and a block that is not there is not reached
