@@ -8,7 +8,7 @@ use Rattle.std.specs.List.{AllByRecursion}
 use Rattle.shapes.specs.declared.axis.Axis.TheVariants.{First, Next, Owner, Previous}
 use Rattle.shapes.specs.Tree.{Tree, Laws}
 use Rattle.shapes.specs.Addresses.{Addressed, NodeAt, RightOf, SiblingTree, letters, address_of}
-use Rattle.shapes.proofs.Letters.{Lettered, lettered, placed, before_next, after_next, ways, root_none, all_counted, apart}
+use Rattle.shapes.proofs.Letters.{no_letter, Lettered, lettered, placed, before_next, after_next, ways, root_none, all_counted, apart}
 use Rattle.shapes.proofs.Letters.Way.{at_root, child, sibling}
 use Rattle.shapes.specs.Trees.{starts_inside, tree_ind}
 
@@ -26,7 +26,7 @@ all_reverse P (n ∷ w) a = rw (reverse-cons n w) (recursion_from_All P _ (All-p
 module _ (t : Tree) (l : Laws t) (L : ℕ → List ℕ) (s : Lettered t L) where
   shorter : (x : ℕ) (w : List ℕ) (n : ℕ) → x < t.count → L x ≡ n ∷ reverse w → NodeAt t (λ y. reverse (L y)) w
   shorter x w n h e = ⊎_elim
-      (λ z. cc (ap L z ∙ root_none t l L s))
+      (λ z. absurd (no_letter (L x) _ _ (ap L z ∙ root_none t l L s) e))
       (λ b. let q : L b.above ≡ reverse w = cc b.word in (b.above, b.node, ap reverse q ∙ reverse-reverse w))
       (placed t l L s x h)
 

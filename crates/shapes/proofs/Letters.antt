@@ -7,6 +7,9 @@ use Rattle.shapes.specs.Addresses.{raised, letters}
 use Rattle.shapes.specs.Trees.{starts_inside, way_in, tree_ind, level_below, child_first}
 use Rattle.shapes.specs.Walks.{not_both}
 
+pub no_letter : (v w : List ℕ) (n : ℕ) → v ≡ [] → v ≡ n ∷ w → ⊥
+no_letter v w n e f = cc
+
 all_raised : (w : List ℕ) → AllByRecursion (λ n. 1 ≤ n) w → AllByRecursion (λ n. 1 ≤ n) (raised w)
 all_raised [] a = a
 all_raised (n ∷ w) a = (omega arith, a.1)
@@ -126,8 +129,8 @@ module _ (t : Tree) (l : Laws t) (L : ℕ → List ℕ) (s : Lettered t L) where
       root : (y : ℕ) → y < t.count → L 0 ≡ L y → 0 ≡ y
       root y h e = elim (ways y h) [
         | at_root z w ↦ sym z
-        | child p g w ↦ cc root_none
-        | sibling p m u g c v w ↦ cc root_none
+        | child p g w ↦ absurd (no_letter (L y) _ _ (sym e ∙ root_none) w)
+        | sibling p m u g c v w ↦ absurd (no_letter (L y) _ _ (sym e ∙ root_none) w)
       ]
 
       first : (x' x : ℕ) → t.first x' ≡ Some x → ((y : ℕ) → y < t.count → L x' ≡ L y → x' ≡ y) → (y : ℕ) → y < t.count → L x ≡ L y → x ≡ y

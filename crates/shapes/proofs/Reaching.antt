@@ -1,8 +1,8 @@
 -- The breadth-first search of a lawful tree gives every node its level.
-use Rattle.std.specs.Prelude.{◌≡◌, ℕ, zero, suc, ◌+◌, ◌-◌, ◌<◌, ◌≤◌, true, false, cond, ◌⊎◌, List, [], ◌∷◌, ◌++◌, length, is_none, is_some, replicate, Some, None, Option, count_by, ◌≢◌, nat_lt, slice_set, refl}
+use Rattle.std.specs.Prelude.{◌≡◌, ℕ, zero, suc, ◌+◌, ◌-◌, ◌<◌, ◌≤◌, true, false, cond, ◌⊎◌, List, [], ◌∷◌, ◌++◌, length, get_or, is_none, is_some, replicate, Some, None, Option, count_by, ◌≢◌, nat_lt, slice_set, refl}
 use Rattle.std.specs.List.{All}
 use Rattle.std.proofs.Common.{sym, ap, subst, ◌∙◌, inl, inr, ⊎_elim, arith}
-use Rattle.std.proofs.lemmas.List.{get_or-set_same, get_or-set_other, get_or_past, get_or-replicate, length-set, length_push, length-replicate, nil_from_length}
+use Rattle.std.proofs.lemmas.List.{get_or-set_same, get_or-set_other, get_or_append_left, get_or_past, get_or-replicate, length-set, length_push, length-replicate, nil_from_length}
 use Rattle.std.proofs.lemmas.List.Elements.{All-nil, All-push, All-weaker, All-head, All-tail}
 use Rattle.std.proofs.lemmas.List.Sums.{sum_by-set, sum_by-cons, count_by-le-length}
 use Rattle.std.proofs.lemmas.Option.{same_Some}
@@ -113,7 +113,7 @@ module _ (levels : List (Option ℕ)) (level y : ℕ) (inside : y < length level
   more : knowns added ≡ knowns levels + 1
   more = omega (arith, sum_by-set (λ (o : Option ℕ). cond (is_some o) 1 0) levels y (Some level) None inside, ap {B = ℕ} (λ (o : Option ℕ). cond (is_some o) 1 0) fresh)
 
-  steady_added : (t : Tree) (w : List (ℕ × ℕ)) → Steady t levels w → level ≤ knowns levels → Steady t added (w ++ (y, level) ∷ [])
+  pub steady_added : (t : Tree) (w : List (ℕ × ℕ)) → Steady t levels w → level ≤ knowns levels → Steady t added (w ++ (y, level) ∷ [])
   steady_added t w steady low = record {
     size = length-set levels y (Some level) ∙ steady.size;
     entries = All-push (Entry added) w (y, level) (All-weaker (Entry levels) (Entry added) (λ a e. keeps a.0 a.1 e) w steady.entries) here;
@@ -130,7 +130,7 @@ module _ (levels : List (Option ℕ)) (level y : ℕ) (inside : y < length level
         (cases_eq x y);
   }
 
-  true_added : (true_level : ℕ → ℕ) → true_level y ≡ level → TrueLevels true_level levels → TrueLevels true_level added
+  pub true_added : (true_level : ℕ → ℕ) → true_level y ≡ level → TrueLevels true_level levels → TrueLevels true_level added
   true_added true_level is known x l e =
       ⊎_elim
       (λ same. let f : l ≡ level = same_Some l level (sym e ∙ (ap (level_of added) same ∙ here)) in omega (arith, ap true_level same))
@@ -139,20 +139,24 @@ module _ (levels : List (Option ℕ)) (level y : ℕ) (inside : y < length level
 
 -- reaching what a node may lead to
 module _ (level : ℕ) (o : Option ℕ) (s : Reached) where
-  reach_keeps : (x l : ℕ) → level_of s.levels x ≡ Some l → level_of (reach level o s).levels x ≡ Some l
+  pub reach_keeps : (x l : ℕ) → level_of s.levels x ≡ Some l → level_of (reach level o s).levels x ≡ Some l
   reach_keeps x l e = reach_cases (λ s'. level_of s'.levels x ≡ Some l) level o s (λ y _ inside fresh. keeps s.levels level y inside fresh x l e) (λ _. e)
 
-  reach_known : (t : Tree) → length s.levels ≡ t.count → (y : ℕ) → o ≡ Some y → Settled t (reach level o s).levels y
+  pub reach_known : (t : Tree) → length s.levels ≡ t.count → (y : ℕ) → o ≡ Some y → Settled t (reach level o s).levels y
   reach_known t size y e h =
       reach_cases (λ s'. Known s'.levels y) level o s
       (λ z f inside fresh. let g : z ≡ y = cc in (level, ap (level_of (slice_set s.levels z (Some level))) (sym g) ∙ here s.levels level z inside fresh))
       (λ old. old y e (omega arith))
 
-  reach_longer : length (reach level o s).levels ≡ length s.levels
+  pub reach_longer : length (reach level o s).levels ≡ length s.levels
   reach_longer = reach_cases (λ s'. length s'.levels ≡ length s.levels) level o s (λ y _ _ _. length-set s.levels y (Some level)) (λ _. refl)
 
   reach_more : knowns s.levels ≤ knowns (reach level o s).levels
   reach_more = reach_cases (λ s'. knowns s.levels ≤ knowns s'.levels) level o s (λ y _ inside fresh. omega (arith, more s.levels level y inside fresh)) (λ _. omega arith)
+
+  -- what waits keeps its place
+  pub reach_order : (k : ℕ) → k < length s.waiting → get_or (reach level o s).waiting k (0, 0) ≡ get_or s.waiting k (0, 0)
+  reach_order k h = reach_cases (λ s'. get_or s'.waiting k (0, 0) ≡ get_or s.waiting k (0, 0)) level o s (λ y _ _ _. get_or_append_left s.waiting ((y, level) ∷ []) (0, 0) k h) (λ _. refl)
 
   -- each node that gets a level waits
   reach_tally : length (reach level o s).waiting + knowns s.levels ≡ length s.waiting + knowns (reach level o s).levels
@@ -162,13 +166,13 @@ module _ (level : ℕ) (o : Option ℕ) (s : Reached) where
       (λ _. refl)
 
   -- the node under visit counts as waiting
-  reach_steady : (t : Tree) (a : ℕ × ℕ) → Steady t s.levels (a ∷ s.waiting) → level ≤ knowns s.levels → Steady t (reach level o s).levels (a ∷ (reach level o s).waiting)
+  pub reach_steady : (t : Tree) (a : ℕ × ℕ) → Steady t s.levels (a ∷ s.waiting) → level ≤ knowns s.levels → Steady t (reach level o s).levels (a ∷ (reach level o s).waiting)
   reach_steady t a steady low =
       reach_cases (λ s'. Steady t s'.levels (a ∷ s'.waiting)) level o s
       (λ y _ inside fresh. steady_added s.levels level y inside fresh t (a ∷ s.waiting) steady low)
       (λ _. steady)
 
-  reach_true : (true_level : ℕ → ℕ) → ((y : ℕ) → o ≡ Some y → true_level y ≡ level) → TrueLevels true_level s.levels → TrueLevels true_level (reach level o s).levels
+  pub reach_true : (true_level : ℕ → ℕ) → ((y : ℕ) → o ≡ Some y → true_level y ≡ level) → TrueLevels true_level s.levels → TrueLevels true_level (reach level o s).levels
   reach_true true_level is known =
       reach_cases (λ s'. TrueLevels true_level s'.levels) level o s
       (λ y e inside fresh. true_added s.levels level y inside fresh true_level (is y e) known)
@@ -233,7 +237,7 @@ module _ (t : Tree) where
       (λ e. inr (omega (arith, visit_tally t a.0 a.1 (record { levels = levels; waiting = rest }))))
       h
 
-  visited_steady : (i : ℕ) → Steady t (visited t i).levels (visited t i).waiting
+  pub visited_steady : (i : ℕ) → Steady t (visited t i).levels (visited t i).waiting
   visited_steady zero =
       reach_cases (λ s'. Steady t s'.levels s'.waiting) 0 (Some 0) (untouched t.count)
       (λ y _ inside fresh. steady_added (replicate t.count None) 0 y inside fresh t [] start (omega arith))
