@@ -11,13 +11,13 @@ visit-requires c =
     (ap (λ s. s.waiting) (sym c.loop-node.invariant.1) ∙ c.in-Some.ensures.items)
 
 pub loop-node-smaller : goal.loop-node-smaller
-loop-node-smaller c = visit_falls (linked_tree c.args.rows.now) (reached c.loop-node.search) (reached c.visit.new.self) _ _ c.in-Some.ensures.items c.in_ok-visit.ensures
+loop-node-smaller c = visit_falls (linked_tree c.args.rows.now) (reached c.loop-node.search) (reached c.visit.new.self) _ _ c.in-Some.ensures.items c.visit.ensures
 
 pub loop-node-preserved : goal.loop-node-preserved
 loop-node-preserved c = (
   suc c.loop-node.invariant.0,
   visited_next (linked_tree c.args.rows.now) c.loop-node.invariant.0 (reached c.loop-node.search) _ _ _ c.loop-node.invariant.1 c.in-Some.ensures.items
-      c.in_ok-visit.ensures,
+      c.visit.ensures,
 )
 
 pub returns : goal.returns
