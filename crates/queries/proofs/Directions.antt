@@ -48,16 +48,16 @@ only_lowest : (i : ℕ) → term_at lowest_alone i ≡ Lowest
 only_lowest zero = refl
 only_lowest (suc i) = refl
 
-reads_nothing : (i j : ℕ) → Reads (term_at lowest_alone i) j → ⊥
-reads_nothing i j r = none_read (term_at lowest_alone i) (ap operands_of (only_lowest i)) j r
+lowest_reads_none : (i j : ℕ) → Reads (term_at lowest_alone i) j → ⊥
+lowest_reads_none i j r = none_read (term_at lowest_alone i) (ap operands_of (only_lowest i)) j r
 
 pub lowest_admitted : Admitted lowest_alone
 lowest_admitted = record {
   sized = record { few_tags = omega arith; some_term = omega arith; few_terms = omega arith; no_empty_block = full; all_dealt = refl };
   tag_stands = λ i h a e. absurd (no_lowest a (sym (only_lowest i) ∙ e));
-  operands_stand = λ i h j r. absurd (reads_nothing i j r);
-  no_later_block = λ i h j r. absurd (reads_nothing i j r);
-  turn_earlier = λ i h a e. absurd (reads_nothing i a (turn_read (term_at lowest_alone i) a e));
+  operands_stand = λ i h j r. absurd (lowest_reads_none i j r);
+  no_later_block = λ i h j r. absurd (lowest_reads_none i j r);
+  turn_earlier = λ i h a e. absurd (lowest_reads_none i a (turn_read (term_at lowest_alone i) a e));
 }
   where
     full : (b : ℕ) → b < 1 → 1 ≤ blocks_terms lowest_alone b

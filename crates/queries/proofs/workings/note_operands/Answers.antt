@@ -33,5 +33,5 @@ returns-in_ok-note_within-2-clause-readers c t =
     let first = c.in_ok-note_within.ensures in
     c.in_ok-note_within-2.ensures.readers t
     ∙ ap₂ (λ ds l. noted (same_block ds && eqb o.right t) l c.args.reader) first.dealt (first.readers t)
-    ∙ noted_twice (same_block (map dealt_of es)) o.left o.right t c.args.reader (readers_at es t) c.if-operands.true
+    ∙ noted_twice (same_block (map dealt_of es)) o.left o.right t c.args.reader (readers_at es t) (λ same. omega (arith, c.if-operands.true))
     ∙ ap (λ p. noted (same_block (map dealt_of es) && either_is p t) (readers_at es t) c.args.reader) (sym (operands_at es c.args.reader c.index-entries-reader.result o c.requires.reader c.in-Some.ensures))
