@@ -17,8 +17,10 @@ fn previous_sibling(depths: &[u16], latest: &[u16], node: usize) -> Option<u16>
     requires latest { AllLatest depths.now node latest.now }
     ensures { (p : ℕ) → Iff (result ≡ Some p) (NextSibling depths.now p node) }
 {
+    // Read before the test, so that reading is no branch of its own.
+    let left = latest[depths[node] as usize];
     if node > 0 && depths[node] <= depths[node - 1] {
-        Some(latest[depths[node] as usize])
+        Some(left)
     } else {
         None
     }
