@@ -29,7 +29,7 @@ impl DealtTerms<'_> {
     fn unread(self, heap: Global) -> Result<Vec<TermEntry>, AllocError>
         ensures { IfOk result (λ v. (map dealt_of v.items ≡ self.entry.terms.now) × ((t : ℕ) → readers_at v.items t ≡ [])) }
     {
-        let mut entries = Vec::with_capacity(heap, self.terms.len())?;
+        let mut entries = Vec::new(heap);
         for dealt in self.terms {
             entries.push(TermEntry {
                 term: dealt.term,
