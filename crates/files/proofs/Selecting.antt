@@ -51,7 +51,7 @@ module _ {P : ℕ → Type 0} where
 -- the numbers that pass a test are those for which P holds, where the test decides it
 pub lists_filtered : (P : ℕ → Type 0) (test : ℕ → Bool) → ((x : ℕ) → Decides (test x) (P x)) → (n : ℕ) → ListsBelow n P (filter test (range_with_len 0 n))
 lists_filtered P test decides n = record {
-  rising = kept_rises test n;
+  rising = kept_rises test 0 n;
   only = λ x has. let h = kept_only test n x has in (h.0, (decides x).0 h.1);
   all = λ x l p. kept_all test n x l ((decides x).1 p);
 }
